@@ -10,14 +10,14 @@ _lusdist() {
     fi
     case ${COMP_WORDS[1]} in
         check)
-            flags='--main --explain --help'
+            flags='--main --explain --short --all --warn --help'
             endings=(lus)
             case $before in
                 --main) COMPREPLY=(); return ;;
             esac
             ;;
         eval)
-            flags='--main --explain --all --chronogram --from --to --vcd --help'
+            flags='--main --explain --short --all --chronogram --from --to --vcd --help'
             endings=(lus csv)
             case $before in
                 --main) COMPREPLY=(); return ;;
@@ -27,14 +27,14 @@ _lusdist() {
             esac
             ;;
         plan)
-            flags='--main --explain --text --dot --help'
+            flags='--main --explain --short --warn --text --dot --help'
             endings=(lus toml)
             case $before in
                 --main) COMPREPLY=(); return ;;
             esac
             ;;
         replay)
-            flags='--main --explain --finish --trace --chart --vcd --help'
+            flags='--main --explain --short --finish --trace --chart --vcd --help'
             endings=(lus toml csv '')
             case $before in
                 --main) COMPREPLY=(); return ;;
@@ -42,7 +42,7 @@ _lusdist() {
             esac
             ;;
         run)
-            flags='--main --explain --workers --progress --items --vcd --help'
+            flags='--main --explain --short --workers --progress --items --vcd --help'
             endings=(lus toml csv)
             case $before in
                 --main) COMPREPLY=(); return ;;

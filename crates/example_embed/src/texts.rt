@@ -48,6 +48,18 @@ pub(crate) struct NoFile;
 impl Dumps for NoFile {
     ghost written = { λ _. [] };
 
+    ghost same = { λ _ one other. one ≡ other };
+
+    ghost shut = { λ _ _. ⊥ };
+
+    fn is_same(&self, _alloc: Global, one: &str, other: &str) -> bool {
+        one == other
+    }
+
+    fn is_shut(&self, _alloc: Global, _path: &str) -> bool {
+        false
+    }
+
     fn write(&mut self, _alloc: Global, _path: &str, _text: String) -> Result<(), WriteError> {
         Err(WriteError::OutOfMemory)
     }

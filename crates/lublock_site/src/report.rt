@@ -55,7 +55,7 @@ impl Model for RowReport {
 
 impl RowReport {
     /// What a site reports that has ended.
-    pub(crate) fn new(
+    pub fn new(
         job: Snapshot<Job>,
         site: u8,
         sites: u8,

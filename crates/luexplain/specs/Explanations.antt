@@ -1,17 +1,14 @@
 -- What is reported of a refusal.
 use Rattle.std.specs.Prelude.{◌≡◌, ℕ, List, ◌++◌, codes, string_bytes}
-use Rattle.std.specs.declared.string.String.{String}
-use Rattle.std.specs.declared.alloc.Global.{Global}
+use Rattle.luexplain.specs.declared.said.Explanation.{Explanation}
 use Rattle.lustat_rules.specs.declared.error.StatError.{StatError}
 use Rattle.lustat_rules.specs.declared.error.StatError.TheVariants.{NoMain, OutOfMemory}
 use Rattle.lustat_rules.specs.Reported.{byte_of}
 use Rattle.luexplain.specs.Place.{place}
 
--- a text begins with a place, and then says in a line what is wrong, and in another how to mend it
-pub record IsExplanation (place : List ℕ) (text : String Global) : Type 0 where
-  pub what : List ℕ
-  pub mend : List ℕ
-  pub is : string_bytes text ≡ place ++ what ++ codes "\n" ++ mend ++ codes "\n"
+-- what is reported stands at this place
+pub record IsExplanation (place : List ℕ) (reported : Explanation) : Type 0 where
+  pub is : string_bytes reported.place ≡ place
 
 -- WHERE
 

@@ -5,3 +5,4 @@ pub mod Text
 pub mod Texts
 pub mod Explanations
 pub mod Vectors
+pub mod Warned

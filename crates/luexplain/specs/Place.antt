@@ -82,10 +82,14 @@ caret_line head tail =
     codes "  | " ++ under_mark (is_cut_left head tail) ++ map under (left_of head tail) ++ codes "^\n"
 
 -- `PATH:LINE:COLUMN`, both counted from 1, by the text before the place
-unfoldable pub numbers : List ℕ → List ℕ → List ℕ
-numbers path before =
+abbrev pub spot : List ℕ → List ℕ → List ℕ
+spot path before =
     path ++ codes ":" ++ decimal (line_number before) ++ codes ":"
-    ++ decimal (length (line_before before) + 1) ++ codes "\n"
+    ++ decimal (length (line_before before) + 1)
+
+-- the same as a line
+unfoldable pub numbers : List ℕ → List ℕ → List ℕ
+numbers path before = spot path before ++ codes "\n"
 
 -- the numbers, the line, and a caret under the place
 abbrev pub place_between : List ℕ → List ℕ → List ℕ → List ℕ

@@ -1,6 +1,7 @@
 //! What stands around the place where a text is refused, and which habit of another dialect that shows.
 
 use crate::bytes::from_byte;
+use crate::expected::{State, part_start, state_outside};
 use crate::habits::{HABITS, Habit, Stand};
 use lusyn_grammar::{Fixed, Lexeme, Token, keyword};
 use std::str;
@@ -22,6 +23,8 @@ pub(crate) struct Around<'t> {
     head: &'t [u8],
     count: usize,
     shape: Shape,
+    /// How far the text has come.
+    pub(crate) state: State,
 }
 
 /// How far a statement has come.
@@ -33,7 +36,8 @@ struct Shape {
     is_value: bool,
     /// A parenthesis is open.
     is_open: bool,
-    /// So is an `if` that has no `else`, inside the last parenthesis that is open.
+    /// So is an `if` that has no `then`, or none that has no `else`, inside the last parenthesis that is open.
+    lacks_then: bool,
     lacks_else: bool,
 }
 
@@ -127,6 +131,8 @@ fn is_equal_sign(found: Option<&Lexeme>) -> bool {
 fn shape_of(statement: &[Lexeme]) -> Shape {
     let mut depth = 0_usize;
     let mut closed = 0_usize;
+    let mut chosen = 0_usize;
+    let mut lacks_then = false;
     let mut lacks_else = false;
     let mut is_open = false;
     for lexeme in statement.iter().rev() {
@@ -140,6 +146,11 @@ fn shape_of(statement: &[Lexeme]) -> Shape {
             Token::Fixed(Fixed::Then) if depth == 0 && !is_open => {
                 lacks_else = lacks_else || closed == 0;
                 closed = closed.saturating_sub(1);
+                chosen = chosen.saturating_add(1);
+            }
+            Token::Fixed(Fixed::If) if depth == 0 && !is_open => {
+                lacks_then = lacks_then || chosen == 0;
+                chosen = chosen.saturating_sub(1);
             }
             _ => {}
         }
@@ -148,7 +159,37 @@ fn shape_of(statement: &[Lexeme]) -> Shape {
         is_equation: is_equal_sign(statement.get(1)),
         is_value: is_end_of_value(statement.last()),
         is_open,
+        lacks_then,
         lacks_else,
+    }
+}
+
+/// How far an equation of these tokens has come.
+fn state_inside(statement: &[Lexeme], shape: Shape) -> State {
+    let mut has_sides = false;
+    for lexeme in statement {
+        has_sides = has_sides || is_equal_sign(Some(lexeme));
+    }
+    if !has_sides {
+        State::Left
+    } else if !shape.is_value {
+        State::Value
+    } else if shape.lacks_then {
+        State::Condition
+    } else if shape.lacks_else {
+        State::Branch
+    } else if shape.is_open {
+        State::Inside
+    } else {
+        State::Outside
+    }
+}
+
+/// How far a text of these tokens has come, of which the last ones are a statement.
+fn state_of(tokens: &[Lexeme], statement: &[Lexeme], shape: Shape) -> State {
+    match state_outside(tokens.get(part_start(tokens)..).unwrap_or(&[])) {
+        Some(state) => state,
+        None => state_inside(statement, shape),
     }
 }
 
@@ -166,6 +207,7 @@ pub(crate) fn what_stands<'t>(text: &'t [u8], byte: usize, tokens: &[Lexeme]) ->
         0 | 1 => &[],
         _ => token_at(text, tokens.get(last.saturating_sub(1))),
     };
+    let shape = shape_of(statement);
     Around {
         past: text.get(..byte).unwrap_or(text),
         rest,
@@ -176,7 +218,8 @@ pub(crate) fn what_stands<'t>(text: &'t [u8], byte: usize, tokens: &[Lexeme]) ->
         second,
         head: token_at(text, statement.first()),
         count: statement.len(),
-        shape: shape_of(statement),
+        shape,
+        state: state_of(tokens, statement, shape),
     }
 }
 
@@ -301,7 +344,7 @@ fn is_unended(around: &Around) -> bool {
     };
     let begins_next = match around.token {
         b"tel" | b"let" | b"node" | b"type" | b"var" => true,
-        _ if around.shape.is_equation => is_at_equation(around),
+        _ if around.shape.is_equation || is(around.head, "(") => is_at_equation(around),
         _ => is(around.next, ":") || is(around.next, ","),
     };
     is_behind && begins_next
@@ -311,6 +354,58 @@ fn is_unended(around: &Around) -> bool {
 fn is_of_type(around: &Around) -> bool {
     is(around.head, "type")
         && (is(around.before, "=") || (around.count == 2 && is(around.token, ";")))
+}
+
+/// Whether a keyword is one that may be meant as a name where a value begins.
+fn is_plain_word(token: &[u8]) -> bool {
+    match token {
+        b"type" | b"enum" | b"int" | b"bool" => true,
+        _ => false,
+    }
+}
+
+/// Whether a keyword is one that begins or ends a part of a program.
+fn is_part_word(token: &[u8]) -> bool {
+    match token {
+        b"node" | b"returns" | b"var" | b"let" | b"tel" => true,
+        _ => false,
+    }
+}
+
+/// Whether a name stands behind a token outside of values.
+fn is_before_name(token: &[u8]) -> bool {
+    match token {
+        b"type" | b"node" | b"var" | b"let" => true,
+        b"(" | b"," | b";" | b"{" | b":" => true,
+        _ => false,
+    }
+}
+
+/// Whether the refused token is a keyword where a name has to stand.
+fn is_keyword_for_name(around: &Around) -> bool {
+    match around.state {
+        State::Value => is_plain_word(around.token),
+        State::Type | State::Head | State::Declaration | State::Local | State::Left => {
+            is_keyword(around.token) && !is_part_word(around.token) && is_before_name(around.before)
+        }
+        _ => false,
+    }
+}
+
+/// Whether the refused token stands behind the call of an equation of several variables.
+fn is_behind_call(around: &Around) -> bool {
+    match around.state {
+        State::Outside => is(around.head, "("),
+        _ => false,
+    }
+}
+
+/// Whether the refused token stands where a value begins, and may begin one elsewhere.
+fn is_operand(around: &Around, word: &str) -> bool {
+    match around.state {
+        State::Value => is(around.token, word),
+        _ => false,
+    }
 }
 
 /// Whether what stands around a place is of another dialect so.
@@ -340,9 +435,12 @@ fn fits(around: &Around, stand: Stand) -> bool {
         Stand::Capital => is_capital(around.token),
         Stand::BehindCapital => is_capital(around.before) && is_at_value(around),
         Stand::Chain => is_chain(around),
+        Stand::Operand(word) => is_operand(around, word),
         Stand::NoElse => is_without_else(around),
         Stand::Unclosed => is_unclosed(around),
         Stand::Unended => is_unended(around),
+        Stand::Keyword => is_keyword_for_name(around),
+        Stand::BehindCall => is_behind_call(around),
         Stand::Type(_) | Stand::Value(_) | Stand::Call(_) => false,
     }
 }
@@ -358,7 +456,7 @@ pub(crate) fn habit_around(around: &Around) -> Option<Habit> {
 }
 
 /// Whether two words are one but for capitals.
-fn is_alike(name: &str, word: &str) -> bool {
+pub(crate) fn is_alike(name: &str, word: &str) -> bool {
     name.as_bytes().eq_ignore_ascii_case(word.as_bytes())
 }
 

@@ -23,6 +23,10 @@ pub(crate) enum Holder<'a> {
 pub(crate) enum Blamed<'a> {
     /// A key that a placement hasn't.
     Unknown(&'a str),
+    /// A variable of the main node that stands outside of `place`.
+    Outside(&'a str),
+    /// A key of the placement that stands in `place`.
+    Inside(&'a str),
     /// There are no `sites`.
     NoSites,
     /// The value of a key is of the wrong kind.
@@ -86,10 +90,18 @@ fn is_site_name(name: &[u8]) -> bool {
     }
 }
 
+/// Where there are no `sites`: that they stand in `place`, or nowhere.
+fn no_sites(table: &Table) -> Blamed<'_> {
+    match entries_of(table) {
+        Some(entries) if entries.get("sites").is_some() => Blamed::Inside("sites"),
+        _ => Blamed::NoSites,
+    }
+}
+
 /// What is wrong with `sites`.
 fn bad_sites(table: &Table) -> Option<Blamed<'_>> {
     let Some(value) = table.get("sites") else {
-        return Some(Blamed::NoSites);
+        return Some(no_sites(table));
     };
     let Some(values) = value.as_array() else {
         return Some(Blamed::Value("sites"));
@@ -121,11 +133,24 @@ fn is_choice(value: &Value, with_arrays: bool) -> bool {
     with_arrays && !values.is_empty()
 }
 
+/// The first key of the placement in `place` whose value is no variable's.
+fn inside(entries: &Table, with_arrays: bool) -> Option<Blamed<'_>> {
+    for (key, value) in entries {
+        if is_key(key.as_str()) && !is_choice(value, with_arrays) {
+            return Some(Blamed::Inside(key.as_str()));
+        }
+    }
+    None
+}
+
 /// What is wrong with `place`.
 fn bad_place(table: &Table, with_arrays: bool) -> Option<Blamed<'_>> {
     let Some(entries) = table.get("place")?.as_table() else {
         return Some(Blamed::Value("place"));
     };
+    if let Some(found) = inside(entries, with_arrays) {
+        return Some(found);
+    }
     for (key, value) in entries {
         if !is_choice(value, with_arrays) {
             return Some(Blamed::Entry(key.as_str()));
@@ -289,6 +314,9 @@ fn unknown_variable<'a>(table: &'a Table, scope: &Scope<'a>) -> Option<Blamed<'a
     for (key, _) in entries_of(table)? {
         let name = key.as_str();
         if scope.place(name).is_none() {
+            if is_key(name) {
+                return Some(Blamed::Inside(name));
+            }
             return Some(Blamed::Variable(name, near_variable(scope, name)));
         }
     }
@@ -341,9 +369,18 @@ fn apart<'a>(table: &Table, node: &'a Node) -> Option<Blamed<'a>> {
     None
 }
 
-/// `P04`, `P05` and `P08`, by the scope of the main node.
+/// `P02`, by the scope of the main node.
+fn bad_key_by<'a>(table: &'a Table, scope: &Scope) -> Blamed<'a> {
+    match bad_key(table) {
+        Blamed::Unknown(key) if scope.place(key).is_some() => Blamed::Outside(key),
+        blamed => blamed,
+    }
+}
+
+/// `P02`, `P04`, `P05` and `P08`, by the scope of the main node.
 fn blamed_by<'a>(table: &'a Table, scope: &Scope<'a>, error: &PlaceError) -> Blamed<'a> {
     let found = match error {
+        PlaceError::BadKey => Some(bad_key_by(table, scope)),
         PlaceError::UnknownVariable => unknown_variable(table, scope),
         PlaceError::Unplaced => unplaced(table, scope),
         _ => apart(table, scope.node()),
@@ -351,7 +388,7 @@ fn blamed_by<'a>(table: &'a Table, scope: &Scope<'a>, error: &PlaceError) -> Bla
     found.unwrap_or(Blamed::Nothing)
 }
 
-/// `P04`, `P05` and `P08`, by the main node.
+/// `P02`, `P04`, `P05` and `P08`, by the main node.
 fn blamed_in_node<'a>(
     alloc: Global,
     table: &'a Table,
@@ -371,16 +408,14 @@ pub(crate) fn blamed_in<'a>(
     error: &PlaceError,
 ) -> Result<Blamed<'a>, AllocError> {
     match error {
-        PlaceError::BadKey => Ok(bad_key(table)),
         PlaceError::OutOfRange => Ok(out_of_range(table)),
         PlaceError::DuplicateSite => twice(alloc, table),
         PlaceError::UnknownSite => Ok(foreign(table).unwrap_or(Blamed::Nothing)),
-        PlaceError::UnknownVariable | PlaceError::Unplaced | PlaceError::SplitCall => {
-            match node_named(program, main) {
-                Some(node) => blamed_in_node(alloc, table, node, error),
-                None => Ok(Blamed::Nothing),
-            }
-        }
         PlaceError::NotToml | PlaceError::OutOfMemory => Ok(Blamed::Nothing),
+        _ => match (node_named(program, main), error) {
+            (Some(node), _) => blamed_in_node(alloc, table, node, error),
+            (None, PlaceError::BadKey) => Ok(bad_key(table)),
+            (None, _) => Ok(Blamed::Nothing),
+        },
     }
 }

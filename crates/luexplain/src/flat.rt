@@ -7,7 +7,7 @@ ghost use Rattle.luexplain.specs.Explanations.{IsExplanation, whole};
 use crate::circle::circle;
 use crate::find::node_named;
 use crate::place::where_in;
-use crate::said::{Said, reported, say, whole};
+use crate::said::{Explanation, Said, reported, say, whole};
 use crate::sentences;
 use crate::words::Part;
 use luflow::FaultKind;
@@ -206,12 +206,12 @@ pub fn of_cycle(
     program: &Program,
     main: &str,
     variable: &str,
-) -> Result<String, AllocError>
+) -> Result<Explanation, AllocError>
     ensures { IfOk result (IsExplainedSomewhere path.now text.now) }
 {
     let byte = byte_of(program, main, variable);
     let said = said_of_cycle(alloc, program, main, variable)?;
-    reported(where_in(alloc, path, text, byte)?, &said)
+    Ok(reported(where_in(alloc, path, text, byte)?, said))
 }
 
 /// What a user reads about a program with too many flows: the path of its file, what is wrong, and how to mend it.
@@ -219,11 +219,11 @@ pub fn of_cycle(
 /// # Errors
 ///
 /// An error means that memory ran out.
-pub fn of_size(alloc: Global, path: &str) -> Result<String, AllocError>
+pub fn of_size(alloc: Global, path: &str) -> Result<Explanation, AllocError>
     ensures { IfOk result (IsExplanation (whole path.now)) }
 {
     let said = say(alloc, sentences::MANY_FLOWS, &[])?;
-    reported(whole(alloc, path)?, &said)
+    Ok(reported(whole(alloc, path)?, said))
 }
 
 /// What is said of a fault of a value.
@@ -264,10 +264,10 @@ pub fn of_fault(
     variable: &str,
     instant: u32,
     kind: FaultKind,
-) -> Result<String, AllocError>
+) -> Result<Explanation, AllocError>
     ensures { IfOk result (IsExplainedSomewhere path.now text.now) }
 {
     let byte = byte_of(program, main, variable);
     let said = said_of_fault(alloc, variable, instant, kind)?;
-    reported(where_in(alloc, path, text, byte)?, &said)
+    Ok(reported(where_in(alloc, path, text, byte)?, said))
 }

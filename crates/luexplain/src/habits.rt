@@ -22,7 +22,7 @@ pub(crate) enum Stand {
     Second(&'static str, &'static str),
     /// It is refused right behind a `not` that stands behind this word.
     Not(&'static str),
-    /// It is refused at this word, with which a type or a node of the program would begin.
+    /// It is refused at this word, with which a type, a node or an equation would begin.
     Top(&'static str),
     /// It is refused at a point with a digit beside it.
     Point,
@@ -44,12 +44,18 @@ pub(crate) enum Stand {
     BehindCapital,
     /// It is refused at a comparison of what is compared already.
     Chain,
+    /// It is refused at this word, with which an operand would begin.
+    Operand(&'static str),
     /// It is refused where an `if` ends that has no `else`.
     NoElse,
     /// It is refused where an equation ends in which a parenthesis is open.
     Unclosed,
     /// It is refused where the next equation or declaration begins, or the list of them ends.
     Unended,
+    /// It is refused at a keyword in place of a name.
+    Keyword,
+    /// It is refused behind the call of an equation of several variables.
+    BehindCall,
     /// It is a type that isn't known; capitals are as good.
     Type(&'static str),
     /// It is a variable that isn't known; capitals are as good.
@@ -69,7 +75,7 @@ const OPEN_COMMENT: &str =
 
 const DIV: &str = "Write `div` for a quotient in whole numbers, as `x div y`.";
 
-const MOD: &str = "Write `mod` for the rest of a division, as `x mod y`.";
+const MOD: &str = "Write `mod` for the remainder of a division, as `x mod y`.";
 
 const AND: &str = "Write `and`.";
 
@@ -111,7 +117,7 @@ const TYPES: &str =
 const CONSTANTS: &str =
     "There are no constants: write the number, or a node without inputs, as `node limit() returns (v: int); let v = 80; tel`.";
 
-const FUNCTIONS: &str = "Write `node`; one that keeps nothing is a function.";
+const FUNCTIONS: &str = "Write `node`; a node that keeps no state is a function.";
 
 const FOREIGN: &str =
     "Each node is written in this language; what comes from outside is an input of the main node.";
@@ -119,7 +125,7 @@ const FOREIGN: &str =
 const ELSE_IF: &str = "Write `else if`.";
 
 const ASSERTIONS: &str =
-    "There are no assertions: make the condition an output, and look whether it is true.";
+    "There are no assertions: make the condition an output, and check that it is true.";
 
 const AUTOMATA: &str =
     "There are no automata: keep the state in a variable of an enumeration, by `fby` and `merge`.";
@@ -151,7 +157,7 @@ const SIDES: &str =
 
 const BETWEEN: &str = "Between declarations stands a `;`, as `x: int; y: int`.";
 
-const TYPE_BEHIND: &str = "The type stands behind the name, as `x: int`.";
+const TYPE_BEHIND: &str = "The type stands after the name, as `x: int`.";
 
 const SMALL: &str = "Write keywords in small letters.";
 
@@ -159,12 +165,21 @@ const SMALL_BEFORE: &str = "Write keywords in small letters: @ is none.";
 
 const CHAIN: &str = "Comparisons aren't chained: write `a < b and b < c`.";
 
+const IF_STATEMENT: &str = "An equation begins with its variable: write `y = if c then a else b;`.";
+
+const IF_OPERAND: &str =
+    "An `if` that is an operand stands in parentheses, as `x + (if c then 1 else 0)`.";
+
+const CURRENT_OPERAND: &str = "Put the `current` in parentheses, as `(current x) when c`.";
+
+const KEYWORD: &str = "A keyword is no name: choose another name.";
+
 const NO_ELSE: &str = "Each `if` has an `else`, since there is a value at every instant.";
 
-const UNCLOSED: &str = "Close the parenthesis that is open, behind @ in line @ or before.";
+const UNCLOSED: &str = "Close the parenthesis that is open, after @ in line @ or before.";
 
 const UNENDED: &str =
-    "Put a `;` behind @ in line @: each equation and each declaration ends with one.";
+    "Put a `;` after @ in line @: each equation and each declaration ends with one.";
 
 const TRUE: &str = "Write `true`, in small letters.";
 
@@ -205,6 +220,8 @@ pub(crate) const HABITS: &[Habit] = &[
     Habit(Stand::Inside("=<"), AT_MOST),
     Habit(Stand::At("<<"), PARAMETERS),
     Habit(Stand::Inside("<<"), PARAMETERS),
+    Habit(Stand::Top("if"), IF_STATEMENT),
+    Habit(Stand::Both(":", "enum"), TYPES),
     Habit(Stand::Top("const"), CONSTANTS),
     Habit(Stand::First("const"), CONSTANTS),
     Habit(Stand::Top("function"), FUNCTIONS),
@@ -242,9 +259,13 @@ pub(crate) const HABITS: &[Habit] = &[
     Habit(Stand::Sides, SIDES),
     Habit(Stand::Comma, BETWEEN),
     Habit(Stand::Chain, CHAIN),
+    Habit(Stand::Operand("if"), IF_OPERAND),
+    Habit(Stand::Second("current", "when"), CURRENT_OPERAND),
     Habit(Stand::NoElse, NO_ELSE),
     Habit(Stand::Unclosed, UNCLOSED),
     Habit(Stand::Unended, UNENDED),
+    Habit(Stand::Keyword, KEYWORD),
+    Habit(Stand::BehindCall, SIDES),
     Habit(Stand::Type("real"), REALS),
     Habit(Stand::Type("float"), REALS),
     Habit(Stand::Type("double"), REALS),

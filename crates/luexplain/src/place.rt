@@ -101,7 +101,7 @@ fn line_before(before: &[u8]) -> &[u8]
 }
 
 /// The part of its line from a place on, by the text from there on.
-fn line_behind(behind: &[u8]) -> &[u8]
+pub(crate) fn line_behind(behind: &[u8]) -> &[u8]
     ensures { result.now ≡ spec.line_behind behind.now }
 {
     let inside = inside_at_front(behind);
@@ -174,13 +174,21 @@ fn put_caret(text: &mut String, head: &[u8], tail: &[u8]) -> Result<(), AllocErr
 }
 
 /// `PATH:LINE:COLUMN`, by the text before the place.
+fn put_spot(text: &mut String, path: &str, before: &[u8]) -> Result<(), AllocError>
+    ensures { Adds result text.old text.new (spec.spot path.now before.now) }
+{
+    let line = feeds_in(before) + 1;
+    let column = line_before(before).len() + 1;
+    write!(text, "{path}:{line}:{column}")
+}
+
+/// The same as a line.
 #[tactic(auto, unfolding(crate::specs::Place::numbers))]
 fn put_numbers(text: &mut String, path: &str, before: &[u8]) -> Result<(), AllocError>
     ensures { Adds result text.old text.new (spec.numbers path.now before.now) }
 {
-    let line = feeds_in(before) + 1;
-    let column = line_before(before).len() + 1;
-    writeln!(text, "{path}:{line}:{column}")
+    put_spot(text, path, before)?;
+    text.push('\n')
 }
 
 /// The numbers of a place, its line, and a caret under it, by the text before it and behind it.
@@ -221,6 +229,18 @@ pub fn where_in(alloc: Global, path: &str, text: &[u8], byte: usize) -> Result<S
     let mut reported = String::new(alloc);
     put_place(&mut reported, path, before, behind)?;
     Ok(reported)
+}
+
+/// `PATH:LINE:COLUMN` of a byte.
+pub(crate) fn put_spot_of(
+    text: &mut String,
+    path: &str,
+    source: &[u8],
+    byte: usize,
+) -> Result<(), AllocError>
+    ensures { Adds result text.old text.new (spec.spot path.now (take byte source.now)) }
+{
+    put_spot(text, path, parted(source, byte).0)
 }
 
 /// The line of a byte, counted from 1.

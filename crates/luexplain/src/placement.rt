@@ -5,7 +5,7 @@ ghost use Rattle.luexplain.specs.Texts.{IsExplainedSomewhere};
 
 use crate::blame::{Blamed, Holder, blamed_in};
 use crate::near::{FAR, are_apart};
-use crate::said::{Found, Said, reported_of, say, say_at};
+use crate::said::{Explanation, Found, Said, reported_of, say, say_at};
 use crate::sentences;
 use crate::sought::{entry_in, key_in, text_behind};
 use crate::words::Part;
@@ -27,8 +27,8 @@ fn holder_byte(text: &[u8], holder: Holder) -> Option<usize> {
 /// Where what is refused stands.
 fn byte_of(text: &[u8], blamed: Blamed) -> Option<usize> {
     match blamed {
-        Blamed::Unknown(key) | Blamed::Value(key) => key_in(text, key),
-        Blamed::Entry(key) | Blamed::Variable(key, _) => entry_in(text, key),
+        Blamed::Unknown(key) | Blamed::Outside(key) | Blamed::Value(key) => key_in(text, key),
+        Blamed::Entry(key) | Blamed::Inside(key) | Blamed::Variable(key, _) => entry_in(text, key),
         Blamed::Version => key_in(text, "version"),
         Blamed::Capacity => key_in(text, "capacity"),
         Blamed::Sites(_) => key_in(text, "sites"),
@@ -61,22 +61,13 @@ fn near_key(key: &str) -> Option<&'static str> {
     None
 }
 
-/// What is said of what is refused.
-fn said_of_blamed<'a>(
+/// What is said of names of sites that are refused, and of other things by the rule alone.
+fn said_of_sites<'a>(
     alloc: Global,
-    main: &'a str,
     error: &PlaceError,
     blamed: Blamed<'a>,
 ) -> Result<Said, AllocError> {
     match blamed {
-        Blamed::Unknown(key) => say(
-            alloc,
-            sentences::NO_KEY,
-            &[Part::Name(key), Part::Near(near_key(key))],
-        ),
-        Blamed::NoSites => say(alloc, sentences::NO_SITES, &[]),
-        Blamed::Value(key) => say(alloc, sentences::of_value(key), &[Part::Name(key)]),
-        Blamed::Entry(key) => say(alloc, sentences::BAD_ENTRY, &[Part::Name(key)]),
         Blamed::BadName(name) => say(alloc, sentences::BAD_SITE_NAME, &[Part::Name(name)]),
         Blamed::Twice(Holder::Key(key), name) => say(
             alloc,
@@ -93,8 +84,6 @@ fn said_of_blamed<'a>(
             sentences::NO_SITE,
             &[Part::Name(name), Part::Near(near)],
         ),
-        Blamed::Version => say(alloc, sentences::NO_VERSION, &[]),
-        Blamed::Capacity => say(alloc, sentences::CAPACITY_OUT_OF_RANGE, &[]),
         Blamed::Sites(count) => say(
             alloc,
             sentences::SITE_COUNT,
@@ -103,6 +92,30 @@ fn said_of_blamed<'a>(
                 Part::Number(MOST_SITES),
             ],
         ),
+        _ => say(alloc, sentences::of_place_alone(error), &[]),
+    }
+}
+
+/// What is said of what is refused.
+fn said_of_blamed<'a>(
+    alloc: Global,
+    main: &'a str,
+    error: &PlaceError,
+    blamed: Blamed<'a>,
+) -> Result<Said, AllocError> {
+    match blamed {
+        Blamed::Unknown(key) => say(
+            alloc,
+            sentences::NO_KEY,
+            &[Part::Name(key), Part::Near(near_key(key))],
+        ),
+        Blamed::Outside(key) => say(alloc, sentences::OUTSIDE_PLACE, &[Part::Name(key)]),
+        Blamed::Inside(key) => say(alloc, sentences::INSIDE_PLACE, &[Part::Name(key)]),
+        Blamed::NoSites => say(alloc, sentences::NO_SITES, &[]),
+        Blamed::Value(key) => say(alloc, sentences::of_value(key), &[Part::Name(key)]),
+        Blamed::Entry(key) => say(alloc, sentences::BAD_ENTRY, &[Part::Name(key)]),
+        Blamed::Version => say(alloc, sentences::NO_VERSION, &[]),
+        Blamed::Capacity => say(alloc, sentences::CAPACITY_OUT_OF_RANGE, &[]),
         Blamed::Variable(name, near) => say(
             alloc,
             sentences::NO_VARIABLE_OF_MAIN,
@@ -114,7 +127,7 @@ fn said_of_blamed<'a>(
             sentences::APART,
             &[Part::Name(first), Part::Name(second)],
         ),
-        Blamed::Nothing => say(alloc, sentences::of_place_alone(error), &[]),
+        _ => said_of_sites(alloc, error, blamed),
     }
 }
 
@@ -196,9 +209,9 @@ pub fn of_place(
     program: &Program,
     main: &str,
     error: &PlaceError,
-) -> Result<String, AllocError>
+) -> Result<Explanation, AllocError>
     ensures { IfOk result (IsExplainedSomewhere path.now text.now) }
 {
     let found = found_at(alloc, text, program, main, error)?;
-    reported_of(alloc, path, text, &found)
+    reported_of(alloc, path, text, found)
 }

@@ -12,7 +12,7 @@ use crate::naming::{
     unknown_name, unknown_node,
 };
 use crate::place::where_in;
-use crate::said::{Said, reported, say, whole};
+use crate::said::{Explanation, Said, reported, say, whole};
 use crate::{clocks, sentences, typing};
 use lustat_rules::{Catalog, Scope, StatError};
 use lutree::{Declaration, Equation, Program};
@@ -151,9 +151,9 @@ pub fn of_rule(
     program: &Program,
     main: &str,
     error: &StatError,
-) -> Result<String, AllocError>
+) -> Result<Explanation, AllocError>
     ensures { IfOk result (IsExplanation (place_of_rule path.now text.now error.now)) }
 {
     let said = said_in(alloc, text, program, main, error)?;
-    reported(place_of_rule(alloc, path, text, error)?, &said)
+    Ok(reported(place_of_rule(alloc, path, text, error)?, said))
 }

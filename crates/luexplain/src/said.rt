@@ -1,10 +1,11 @@
 //! What is reported: a place, what is wrong, and how to mend it.
 
 ghost use Rattle.std.specs.Prelude.{◌≡◌, ◌++◌, codes, IfOk, string_bytes};
+ghost use Rattle.luexplain.specs.Place.{line_behind};
 ghost use Rattle.luexplain.specs.Texts.{IsExplainedSomewhere};
 ghost use Rattle.luexplain.specs.Explanations.{IsExplanation};
 
-use crate::place::where_in;
+use crate::place::{line_behind, where_in};
 use crate::sentences::Wording;
 use crate::words::{Part, put_part};
 use std::alloc::{AllocError, Global};
@@ -12,8 +13,28 @@ use std::alloc::{AllocError, Global};
 /// What is wrong, in a sentence, and how to mend it, in another.
 #[derive(Drop)]
 pub(crate) struct Said {
-    what: String,
-    mend: String,
+    pub(crate) what: String,
+    pub(crate) mend: String,
+}
+
+/// What a user reads of a refusal.
+#[derive(Drop)]
+pub struct Explanation {
+    /// Where it stands: `PATH:LINE:COLUMN` on a line, and below it the line of the text with a caret; of the whole text a line with its path.
+    pub place: String,
+    /// What is wrong, in a sentence.
+    pub what: String,
+    /// How to mend it, in another.
+    pub mend: String,
+}
+
+impl Explanation {
+    /// `PATH:LINE:COLUMN`, or the path alone: the first line of the place.
+    pub fn head(&self) -> &[u8]
+        ensures { result.now ≡ line_behind (string_bytes self.now.place) }
+    {
+        line_behind(self.place.as_bytes())
+    }
 }
 
 /// What is said, and the byte at which it stands; none where it is of the whole.
@@ -75,29 +96,26 @@ pub(crate) fn whole(alloc: Global, path: &str) -> Result<String, AllocError>
     Ok(line)
 }
 
-/// A place, and behind it what is said, a line each.
-pub(crate) fn reported(place: String, said: &Said) -> Result<String, AllocError>
-    ensures { IfOk result (IsExplanation (string_bytes place)) }
+/// A place, and what is said of it.
+pub(crate) fn reported(place: String, said: Said) -> Explanation
+    ensures { IsExplanation (string_bytes place) result }
 {
-    let mut text = place;
-    text.push_str(said.what.as_str())?;
-    text.push('\n')?;
-    text.push_str(said.mend.as_str())?;
-    text.push('\n')?;
-    Ok(text)
+    let Said { what, mend } = said;
+    Explanation { place, what, mend }
 }
 
-/// What is said, behind its place.
+/// What is said, and its place.
 pub(crate) fn reported_of(
     alloc: Global,
     path: &str,
     text: &[u8],
-    found: &Found,
-) -> Result<String, AllocError>
+    found: Found,
+) -> Result<Explanation, AllocError>
     ensures { IfOk result (IsExplainedSomewhere path.now text.now) }
 {
-    match found.byte {
-        Some(byte) => reported(where_in(alloc, path, text, byte)?, &found.said),
-        None => reported(whole(alloc, path)?, &found.said),
+    let Found { byte, said } = found;
+    match byte {
+        Some(byte) => Ok(reported(where_in(alloc, path, text, byte)?, said)),
+        None => Ok(reported(whole(alloc, path)?, said)),
     }
 }

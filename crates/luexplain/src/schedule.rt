@@ -6,7 +6,7 @@ ghost use Rattle.luexplain.specs.Texts as spec;
 
 use crate::bytes::from_byte;
 use crate::place::where_in;
-use crate::said::{Said, reported, say, whole};
+use crate::said::{Explanation, Said, reported, say, whole};
 use crate::sentences;
 use crate::words::Part;
 use lulimits::limits::LONGEST_SCHEDULE;
@@ -60,9 +60,9 @@ pub fn of_schedule(
     path: &str,
     text: &[u8],
     error: &ScheduleError,
-) -> Result<String, AllocError>
+) -> Result<Explanation, AllocError>
     ensures { IfOk result (IsExplanation (spec.place_of_schedule path.now text.now error.now)) }
 {
     let said = said_of_schedule(alloc, text, error)?;
-    reported(place_of_schedule(alloc, path, text, error)?, &said)
+    Ok(reported(place_of_schedule(alloc, path, text, error)?, said))
 }

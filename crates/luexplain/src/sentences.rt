@@ -13,16 +13,13 @@ pub(crate) struct Wording {
     pub(crate) mend: &'static str,
 }
 
-// E01 Syntax; what is said of words and signs of other dialects stands in `habits`
+// E01 Syntax; what is said of words and signs of other dialects stands in `habits`, and what could stand there in `expected`
 pub(crate) const TEXT_ENDS: Wording = Wording {
     what: "The text ends here, before the program does.",
     mend: "Each node ends with `tel`, and each equation and declaration with `;`.",
 };
 
-pub(crate) const MISPLACED: Wording = Wording {
-    what: "@ can't stand here.",
-    mend: "What is missing often belongs before it, as the `;` of an equation; a keyword is no name.",
-};
+pub(crate) const MISPLACED: &str = "@ can't stand here.";
 
 pub(crate) const NO_TOKEN: Wording = Wording {
     what: "@ begins no name, number or sign.",
@@ -36,9 +33,14 @@ pub(crate) const LARGE_NUMBER: Wording = Wording {
 };
 
 // E03 NotAscii
+pub(crate) const MARKED_PROGRAM: Wording = Wording {
+    what: "The program begins with a byte order mark, the bytes EF BB BF.",
+    mend: "Save it as UTF-8 without a byte order mark, or cut the mark off: `tail -c +4 old.lus > new.lus`.",
+};
+
 pub(crate) const WIDE_BYTE: Wording = Wording {
-    what: "The byte here is above 127, and a program has none, in comments too.",
-    mend: "Write it in other letters.",
+    what: "This byte is above 127: a program is ASCII, and so are its comments.",
+    mend: "Write it in ASCII letters.",
 };
 
 // E04 TooLong
@@ -79,12 +81,12 @@ pub(crate) const UNKNOWN_NAME: Wording = Wording {
 
 pub(crate) const NO_VARIABLE: Wording = Wording {
     what: "@ is no variable of node @, and no name of an enumeration.",
-    mend: "@Spell the name as it is declared, or declare it; what another node knows has to come as an argument.",
+    mend: "@Spell the name as it is declared, or declare it; a variable of another node has to come as an argument.",
 };
 
 pub(crate) const LABEL_NO_VARIABLE: Wording = Wording {
     what: "@ is a name of the enumeration @, and no variable of node @.",
-    mend: "Name a variable of that type; as a clock a name stands with one, as `A(x)`.",
+    mend: "Name a variable of that type; a clock is written with both, as `A(x)`.",
 };
 
 pub(crate) const NODE_NO_VARIABLE: Wording = Wording {
@@ -123,12 +125,12 @@ pub(crate) const NO_NODE: Wording = Wording {
 
 pub(crate) const LABEL_NO_NODE: Wording = Wording {
     what: "@ is a name of the enumeration @, and no node.",
-    mend: "Compare by `x = A`; the clock `A(x)` stands behind a `when`.",
+    mend: "Compare by `x = A`; the clock `A(x)` stands after a `when`.",
 };
 
 pub(crate) const VARIABLE_NO_NODE: Wording = Wording {
     what: "@ is a variable of node @, and no node.",
-    mend: "A name with parentheses behind it is a call: leave them out, or put an operator or a `;` before them.",
+    mend: "A name with parentheses after it is a call: leave them out, or put an operator or a `;` before them.",
 };
 
 // E13 TypeMismatch
@@ -183,18 +185,18 @@ pub(crate) const UNDEFINED: Wording = Wording {
 
 pub(crate) const NO_EQUATION: Wording = Wording {
     what: "The @ @ of node @ has no equation.",
-    mend: "Write the equation, or take back the declaration; what comes from outside is an input.",
+    mend: "Write the equation, or remove the declaration; what comes from outside is an input.",
 };
 
 // E16 DefinedTwice
 pub(crate) const DEFINED_TWICE: Wording = Wording {
     what: "A variable has a second equation, or an input has one.",
-    mend: "Say it all in one equation.",
+    mend: "Write one equation for each variable, and none for an input.",
 };
 
 pub(crate) const INPUT_DEFINED: Wording = Wording {
     what: "@ is an input of node @, and an input has no equation.",
-    mend: "Take the equation back, or give its value another name.",
+    mend: "Remove the equation, or give its value another name.",
 };
 
 pub(crate) const TWICE_ON_LEFT: Wording = Wording {
@@ -204,12 +206,12 @@ pub(crate) const TWICE_ON_LEFT: Wording = Wording {
 
 pub(crate) const DEFINED_BEFORE: Wording = Wording {
     what: "@ has an equation already, in line @.",
-    mend: "Say it all in one equation: it holds at every instant, and is no step that is done.",
+    mend: "Write one equation for it: an equation holds at every instant, and is no assignment.",
 };
 
 // E17 RecursiveNode
 const STEP_BY_STEP: &str =
-    "Go on from instant to instant with `pre`, or write a node for each step of the way.";
+    "Keep a value from instant to instant with `pre`, or write a node for each level of calls.";
 
 pub(crate) const RECURSIVE_NODE: Wording = Wording {
     what: "A node calls itself.",
@@ -222,10 +224,10 @@ pub(crate) const CIRCLE_OF_CALLS: Wording = Wording {
 };
 
 // E18 NoMain
-const NAME_THE_MAIN: &str = "@Name the main node with `--main`, or call it so.";
+const NAME_THE_MAIN: &str = "@Name the main node with `--main`, or rename it.";
 
 pub(crate) const NO_MAIN: Wording = Wording {
-    what: "No node is called @; there are @.",
+    what: "No node is called @; the nodes are @.",
     mend: NAME_THE_MAIN,
 };
 
@@ -235,7 +237,7 @@ pub(crate) const NO_OTHER_MAIN: Wording = Wording {
 };
 
 pub(crate) const NO_NODES: Wording = Wording {
-    what: "No node is called @: there is none.",
+    what: "No node is called @: the program has no nodes.",
     mend: NAME_THE_MAIN,
 };
 
@@ -278,17 +280,17 @@ pub(crate) const NOTHING_HELD: Wording = Wording {
 
 // E21 NotAClock
 pub(crate) const NOT_A_CLOCK: Wording = Wording {
-    what: "A variable stands as a clock, and is none.",
+    what: "A variable is used as a clock, and is none.",
     mend: "Name a `bool`, or a variable of an enumeration with one of its names.",
 };
 
 pub(crate) const OTHER_TYPE: Wording = Wording {
-    what: "@ stands here as a clock of type @, and is of type @.",
+    what: "@ is used here as a clock of type @, and is of type @.",
     mend: "Name a `bool`, or name a variable of an enumeration with one of its names, as `A(x)`.",
 };
 
 pub(crate) const ENDLESS_CLOCKS: Wording = Wording {
-    what: "Whoever goes from variable to clock never comes to the base clock: @ ..",
+    what: "This chain of clocks never comes to the base clock: @ ..",
     mend: "Declare one of them without a clock.",
 };
 
@@ -307,7 +309,7 @@ pub(crate) const CLOCKED_MAIN: Wording = Wording {
 
 pub(crate) const CLOCKED_DECLARATION: Wording = Wording {
     what: "The @ @ of node @ is on @; inputs, and outputs of all but the main node, are on the base clock.",
-    mend: "Declare it without a clock, and sample it inside by `when`; a node that is given samples lives on their clock as a whole.",
+    mend: "Declare it without a clock, and sample it inside by `when`; a node whose arguments are sampled runs on their clock as a whole.",
 };
 
 // E23 HiddenClock
@@ -317,7 +319,7 @@ pub(crate) const HIDDEN_CLOCK: Wording = Wording {
 };
 
 pub(crate) const LOCAL_CLOCK: Wording = Wording {
-    what: "The output @ is on the clock `@`, and @ is a local, which nobody outside sees.",
+    what: "The output @ is on the clock `@`, and @ is a local, which isn't known outside.",
     mend: "Make @ an output too.",
 };
 
@@ -372,7 +374,7 @@ pub(crate) const MANY_FLOWS: Wording = Wording {
 
 // P01 NotToml
 const FORM_OF_TOML: &str =
-    "Names and texts stand in quotes, arrays in brackets, and each key has a line of its own and stands once.";
+    "Names of sites stand in quotes, arrays in brackets, and each key stands once, in a line of its own.";
 
 pub(crate) const NOT_TOML: Wording = Wording {
     what: "The placement is no TOML text.",
@@ -393,6 +395,16 @@ pub(crate) const BAD_KEY: Wording = Wording {
 pub(crate) const NO_KEY: Wording = Wording {
     what: "@ is no key of a placement.",
     mend: "@The keys are `version`, `sites`, `capacity`, `default` and the table `place`, in which the variables have their entries.",
+};
+
+pub(crate) const OUTSIDE_PLACE: Wording = Wording {
+    what: "@ is no key of a placement, but a variable of the main node.",
+    mend: "Put it below a line `[place]`.",
+};
+
+pub(crate) const INSIDE_PLACE: Wording = Wording {
+    what: "@ is a key of the placement, and stands in the table `place`.",
+    mend: "Put it above the line `[place]`: what stands below belongs to the table.",
 };
 
 pub(crate) const NO_SITES: Wording = Wording {
@@ -455,7 +467,8 @@ pub(crate) const NO_SITE: Wording = Wording {
 };
 
 // P04 UnknownVariable
-const NAME_A_VARIABLE: &str = "@Name a variable of the main node.";
+const NAME_A_VARIABLE: &str =
+    "@Name a variable of the main node; one of a called node stands where the call does.";
 
 pub(crate) const UNKNOWN_VARIABLE: Wording = Wording {
     what: "A key in `place` is no input, output or local of the main node.",
@@ -499,11 +512,9 @@ pub(crate) const TWICE_IN_ENTRY: Wording = Wording {
 };
 
 // P07 OutOfRange
-const IN_RANGE: &str = "Write a number in its range.";
-
 pub(crate) const OUT_OF_RANGE: Wording = Wording {
     what: "The capacity isn't from 1 to 1,024, the version isn't 1 or 2, there aren't from 1 to 16 sites, or the text is too long.",
-    mend: IN_RANGE,
+    mend: "Keep to these ranges.",
 };
 
 pub(crate) const NO_VERSION: Wording = Wording {
@@ -513,7 +524,7 @@ pub(crate) const NO_VERSION: Wording = Wording {
 
 pub(crate) const CAPACITY_OUT_OF_RANGE: Wording = Wording {
     what: "The capacity isn't from 1 to 1,024.",
-    mend: IN_RANGE,
+    mend: "Write a whole number from 1 to 1,024, as `capacity = 8`.",
 };
 
 pub(crate) const SITE_COUNT: Wording = Wording {
@@ -536,65 +547,14 @@ pub(crate) const SPLIT_CALL: Wording = Wording {
 };
 
 pub(crate) const APART: Wording = Wording {
-    what: "@ and @ come of one call, and stand at different sites.",
+    what: "@ and @ come from one call, and stand at different sites.",
     mend: PLACE_TOGETHER,
-};
-
-// T01 BadHeader
-pub(crate) const NOT_UTF8: Wording = Wording {
-    what: "The table isn't UTF-8: this byte can't stand here.",
-    mend: "Write the table in ASCII.",
-};
-
-pub(crate) const OTHER_HEADER: Wording = Wording {
-    what: "The first line isn't the header @ with a line feed at its end; it differs from here on.",
-    mend: "@Write the names of the inputs in order of declaration, with `,` between them and no blanks.",
-};
-
-// T02 BadRow
-pub(crate) const UNENDED_LINE: Wording = Wording {
-    what: "The last line has no line feed at its end.",
-    mend: "End each line with a line feed, the last one too.",
-};
-
-pub(crate) const FIELD_COUNT: Wording = Wording {
-    what: "The line has @, and the table has @: @.",
-    mend: "Write a value for each input at every instant.",
-};
-
-// T03 BadValue
-pub(crate) const BAD_VALUE: Wording = Wording {
-    what: "A field of this line is no value of its type.",
-    mend: "Write a value of the type of its input.",
-};
-
-const NO_VALUE_OF_TYPE: &str = "@ in the column @ is no value of type @.";
-
-pub(crate) const NO_INT: Wording = Wording {
-    what: NO_VALUE_OF_TYPE,
-    mend: "Write a whole number from -9223372036854775808 to 9223372036854775807, without blanks, `+` or zeros before it.",
-};
-
-pub(crate) const NO_BOOL: Wording = Wording {
-    what: NO_VALUE_OF_TYPE,
-    mend: "Write `true` or `false`, without blanks.",
-};
-
-pub(crate) const NO_LABEL_OF_TYPE: Wording = Wording {
-    what: NO_VALUE_OF_TYPE,
-    mend: "Write one of @, without blanks.",
-};
-
-// T04 TooLong
-pub(crate) const LONG_TABLE: Wording = Wording {
-    what: "The table has @ bytes and @; it may have @ bytes, and a header and 1000000 lines.",
-    mend: "Try the program at a part of the table.",
 };
 
 // S01 BadSchedule
 pub(crate) const NO_TURN: Wording = Wording {
-    what: "@ is no turn, no blank and no line feed.",
-    mend: "Write a letter for each turn, `0` to `9` and `a` to `f` for the sites 0 to 15, and between them blanks and line feeds alone.",
+    what: "@ is no turn, no space and no line feed.",
+    mend: "Write a letter for each turn, `0` to `9` and `a` to `f` for the sites 0 to 15, and between them spaces and line feeds alone.",
 };
 
 // S02 LongSchedule
@@ -645,12 +605,6 @@ pub(crate) const ARGUMENT: &str = "argument";
 
 pub(crate) const VALUE: &str = "value";
 
-pub(crate) const FIELD: &str = "field";
-
-pub(crate) const COLUMN: &str = "column";
-
-pub(crate) const LINE: &str = "line";
-
 pub(crate) const SITE: &str = "site";
 
 // What one does to the next in a circle.
@@ -659,7 +613,7 @@ pub(crate) const CALLS: &str = "calls";
 pub(crate) const READS: &str = "reads";
 
 // What is of a type, or on a clock.
-pub(crate) const OPERAND: &str = "what @ takes";
+pub(crate) const OPERAND: &str = "an operand of @";
 
 pub(crate) const CONDITION: &str = "the condition of an `if`";
 
@@ -679,9 +633,9 @@ pub(crate) const NEEDED_OUTPUT: &str = "the output @";
 
 pub(crate) const NAMED_AS_CLOCK: &str = "@, which is named as a clock,";
 
-pub(crate) const BEHIND_PRE: &str = "what stands behind a `pre`";
+pub(crate) const BEHIND_PRE: &str = "the operand of a `pre`";
 
-pub(crate) const BEHIND_FBY: &str = "what stands on the right of a `fby`";
+pub(crate) const BEHIND_FBY: &str = "the right operand of a `fby`";
 
 pub(crate) const ARGUMENT_OF: &str = "an argument of @";
 
@@ -741,3 +695,24 @@ pub(crate) fn of_value(key: &str) -> Wording {
         _ => BAD_CAPACITY,
     }
 }
+
+// W1 UnusedNode to W4 DividingBranch
+pub(crate) const UNUSED_NODE: Wording = Wording {
+    what: "No equation calls the node @.",
+    mend: "",
+};
+
+pub(crate) const UNUSED_INPUT: Wording = Wording {
+    what: "Nothing in the node @ reads its input @.",
+    mend: "",
+};
+
+pub(crate) const UNUSED_LOCAL: Wording = Wording {
+    what: "Nothing in the node @ reads its local @, which is computed all the same and may fault.",
+    mend: "",
+};
+
+pub(crate) const DIVIDING_BRANCH: Wording = Wording {
+    what: "Both branches of an `if` are computed at each instant: a `div` or `mod` by zero faults also where it isn't chosen.",
+    mend: "",
+};

@@ -7,8 +7,9 @@ ghost use Rattle.luexplain.specs.Syntax as spec;
 
 use crate::around::{Around, habit_around, token_of, what_stands};
 use crate::bytes::from_byte;
+use crate::expected::expected;
 use crate::place::{line_of, where_in};
-use crate::said::{Said, reported, say, whole};
+use crate::said::{Explanation, Said, reported, say, whole};
 use crate::sentences;
 use crate::sentences::Wording;
 use crate::words::Part;
@@ -53,10 +54,13 @@ fn tokens_before(alloc: Global, text: &[u8], byte: usize) -> Result<Vec<Lexeme<'
     }
 }
 
-/// What is said of a token with which no program goes on: a habit of another dialect, or else that it can't stand here.
+/// What is said of a token with which no program goes on: a habit of another dialect, or else what could stand here.
 fn said_of_token(alloc: Global, text: &[u8], around: &Around) -> Result<Said, AllocError> {
     let usual = match around.token {
-        [first, ..] if is_sign(*first) => sentences::MISPLACED,
+        [first, ..] if is_sign(*first) => Wording {
+            what: sentences::MISPLACED,
+            mend: expected(around.state),
+        },
         _ => sentences::NO_TOKEN,
     };
     let wording = match habit_around(around) {
@@ -87,6 +91,14 @@ fn said_of_byte(alloc: Global, text: &[u8], byte: usize) -> Result<Said, AllocEr
     said_of_token(alloc, text, &around)
 }
 
+/// What is said of a text with a byte above 127.
+fn of_wide(text: &[u8]) -> Wording {
+    match text {
+        [0xEF, 0xBB, 0xBF, ..] => sentences::MARKED_PROGRAM,
+        _ => sentences::WIDE_BYTE,
+    }
+}
+
 /// What is said of a text that is no program.
 fn said_of_syntax(alloc: Global, text: &[u8], error: &SynError) -> Result<Said, AllocError> {
     match error {
@@ -95,7 +107,7 @@ fn said_of_syntax(alloc: Global, text: &[u8], error: &SynError) -> Result<Said, 
             let token = token_of(from_byte(text, *byte));
             say(alloc, sentences::LARGE_NUMBER, &[Part::Bytes(token)])
         }
-        SynError::NotAscii => say(alloc, sentences::WIDE_BYTE, &[]),
+        SynError::NotAscii => say(alloc, of_wide(text), &[]),
         SynError::TooLong if text.len() > LONGEST_PROGRAM => say(
             alloc,
             sentences::LONG_PROGRAM,
@@ -137,9 +149,9 @@ pub fn of_syntax(
     path: &str,
     text: &[u8],
     error: &SynError,
-) -> Result<String, AllocError>
+) -> Result<Explanation, AllocError>
     ensures { IfOk result (IsExplanation (spec.place_of_syntax path.now text.now error.now)) }
 {
     let said = said_of_syntax(alloc, text, error)?;
-    reported(place_of_syntax(alloc, path, text, error)?, &said)
+    Ok(reported(place_of_syntax(alloc, path, text, error)?, said))
 }

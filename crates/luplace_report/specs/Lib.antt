@@ -5,3 +5,4 @@ pub mod Report
 pub mod Table
 pub mod Way
 pub mod Vectors
+pub mod Idle

@@ -160,13 +160,13 @@ pub record TablesAre : Type 0 where
       ∷ []
       ∷ codes "run\tby rows"
       ∷ [])
-  -- where a run goes item by item
+  -- where a run goes instant by instant
   pub parted : way_row sampled_sum
-      (Parted (2 ∷ 4 ∷ [])) ≡ codes "run\titem by item: a cycle of y, s is parted over sites\n"
+      (Parted (2 ∷ 4 ∷ [])) ≡ codes "run\tinstant by instant: a cycle of y, s is parted over sites\n"
   pub one_nil : way_row sampled_sum
-      (Nil (2 ∷ [])) ≡ codes "run\titem by item: y may have no value at first, and is sent\n"
+      (Nil (2 ∷ [])) ≡ codes "run\tinstant by instant: y may have no value at first, and is sent\n"
   pub some_nil : way_row sampled_sum
-      (Nil (2 ∷ 3 ∷ 4 ∷ [])) ≡ codes "run\titem by item: y, z, s may have no value at first, and are sent\n"
+      (Nil (2 ∷ 3 ∷ 4 ∷ [])) ≡ codes "run\tinstant by instant: y, z, s may have no value at first, and are sent\n"
 
 pub record GraphsAre : Type 0 where
   pub one_site : graph_text sampled.plan ≡ lines

@@ -1,8 +1,8 @@
 -- How the way of a plan is reported:
 --
 --   run     by rows
---   run     item by item: a cycle of a, b is parted over sites
---   run     item by item: x, y may have no value at first, and are sent
+--   run     instant by instant: a cycle of a, b is parted over sites
+--   run     instant by instant: x, y may have no value at first, and are sent
 use Rattle.std.specs.Prelude.{ℕ, List, [], ◌∷◌, ◌++◌, flat_map, codes}
 use Rattle.luflow.specs.Program.{FlatView}
 use Rattle.luflow.specs.Variables.{variable_name}
@@ -26,10 +26,10 @@ sent_text (v ∷ w ∷ vs) = codes " may have no value at first, and are sent"
 
 abbrev pub parted_text : FlatView → List ℕ → List ℕ
 parted_text flat vs =
-    codes "item by item: a cycle of " ++ (variable_list flat vs ++ codes " is parted over sites")
+    codes "instant by instant: a cycle of " ++ (variable_list flat vs ++ codes " is parted over sites")
 
 abbrev pub nil_text : FlatView → List ℕ → List ℕ
-nil_text flat vs = codes "item by item: " ++ (variable_list flat vs ++ sent_text vs)
+nil_text flat vs = codes "instant by instant: " ++ (variable_list flat vs ++ sent_text vs)
 
 abbrev pub way_text : FlatView → Way → List ℕ
 way_text flat Rows = codes "by rows"

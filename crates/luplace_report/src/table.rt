@@ -13,7 +13,7 @@ use luways::{Way, way_of};
 use std::alloc::{AllocError, Global};
 
 /// How many flows stand at a site.
-fn flow_count(plan: &Plan, site: u8) -> usize
+pub(crate) fn flow_count(plan: &Plan, site: u8) -> usize
     ensures { result ≡ flow_count plan.now site }
 {
     (0..plan.flat().flows().len())

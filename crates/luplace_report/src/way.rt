@@ -46,7 +46,7 @@ fn sent_text(variables: &[usize]) -> &'static str
 fn put_parted(text: &mut String, flat: &Flat, variables: &[usize]) -> Result<(), AllocError>
     ensures { Adds result text.old text.new (parted_text flat.now variables.now) }
 {
-    text.push_str("item by item: a cycle of ")?;
+    text.push_str("instant by instant: a cycle of ")?;
     put_list(text, flat, variables)?;
     text.push_str(" is parted over sites")
 }
@@ -61,7 +61,7 @@ fn put_sent(text: &mut String, variables: &[usize]) -> Result<(), AllocError>
 fn put_nil(text: &mut String, flat: &Flat, variables: &[usize]) -> Result<(), AllocError>
     ensures { Adds result text.old text.new (nil_text flat.now variables.now) }
 {
-    text.push_str("item by item: ")?;
+    text.push_str("instant by instant: ")?;
     put_list(text, flat, variables)?;
     put_sent(text, variables)
 }

@@ -3,3 +3,4 @@ pub mod Making
 pub mod Crew
 pub mod RowShares
 pub mod Collecting
+pub mod Stations

@@ -8,8 +8,8 @@ ghost use Rattle.lurun_rows.specs.Crew.{AreDealt, AreShares, IsDealtTo, IsNewRow
 ghost use Rattle.lurun_rows.specs.RowShares.{promised};
 
 use crate::served::{RowShare, ServedRows, serve, served_of};
+use crate::station::SiteStation;
 use lublock_site::report::RowReport;
-use lublock_site::station::RowStation;
 use lurun_reports::RunError;
 use lurun_threads::Gate;
 use std::alloc::{AllocError, Global};
@@ -86,7 +86,7 @@ fn no_shares(alloc: Global, count: usize) -> Result<Vec<Vec<ServedRows>>, AllocE
 /// The stations of each worker: worker i has the sites whose number leaves i, divided by the number of workers.
 fn deal(
     alloc: Global,
-    stations: Vec<RowStation>,
+    stations: Vec<SiteStation>,
     workers: u8,
 ) -> Result<Vec<Vec<ServedRows>>, AllocError>
     requires { 0 < workers }
@@ -134,7 +134,7 @@ fn row_shares_of(alloc: Global, shares: Vec<Vec<ServedRows>>) -> Result<Vec<RowS
 /// The shares of the workers that have a station.
 fn row_shares_for(
     alloc: Global,
-    stations: Vec<RowStation>,
+    stations: Vec<SiteStation>,
     workers: u8,
 ) -> Result<Vec<RowShare>, AllocError>
     requires { 0 < workers }
@@ -201,7 +201,7 @@ fn join_all<R: Threads>(rt: &R, workers: Vec<Worker>, mut all: Vec<RowReport>) -
 pub fn reports_by_rows<R: Threads + Wait + Clock + Sync, G: Gate>(
     rt: &R,
     alloc: Global,
-    stations: Vec<RowStation>,
+    stations: Vec<SiteStation>,
     workers: u8,
     gate: &G,
 ) -> Result<Vec<RowReport>, RunError>

@@ -10,12 +10,15 @@ mod crew;
 mod making;
 mod run;
 mod served;
+mod station;
 
 pub use collecting::collect_rows;
 pub use lublock_site::report::RowReport;
 pub use lublock_site::station::{RowStation, Went};
 pub use luflow::{Outputs, Status};
+pub use lulist::ListStation;
 pub use lurun_reports::RunError;
 pub use lurun_threads::Gate;
-pub use making::row_stations;
+pub use making::{list_stations, row_stations};
 pub use run::run_rows;
+pub use station::SiteStation;

@@ -8,10 +8,12 @@ ghost use Rattle.lublock_site.specs.RowStations.{IsUnusedSender, IsUnusedReceive
 ghost use Rattle.lurun_rows.specs.Rows.{AreRowsOf, AreBySite};
 ghost use Rattle.lurun_rows.specs.Making.{AreUnused, AllUnused};
 
+use crate::station::SiteStation;
 use lublock_site::flats::flat_copy;
 use lublock_site::station::RowStation;
 use luflow::Flat;
 use lulink::{LinkNo, Rx, Tx, open_link};
+use lulist::ListStation;
 use luplace::{Job, Plan};
 use luways::{Way, way_of};
 use std::alloc::{AllocError, Global};
@@ -111,7 +113,8 @@ fn station_of(
     site: u8,
     flat: &Arc<Flat>,
     ends: Ends,
-) -> Result<Option<RowStation>, AllocError>
+    by_rows: bool,
+) -> Result<Option<SiteStation>, AllocError>
     requires site { site < sites_of job.now.plan }
     requires flat { arc_value flat.now ≡ job.now.plan.flat }
     requires unused { AreUnused job.now ends }
@@ -119,11 +122,24 @@ fn station_of(
 {
     let Ends { txs, rxs } = ends;
     let flat = Arc::try_clone(flat)?;
-    RowStation::new(alloc, job, site, flat, txs, rxs)
+    if by_rows {
+        return Ok(match RowStation::new(alloc, job, site, flat, txs, rxs)? {
+            Some(station) => Some(SiteStation::of_rows(station)),
+            None => None,
+        });
+    }
+    Ok(match ListStation::new(alloc, job, site, flat, txs, rxs)? {
+        Some(station) => Some(SiteStation::of_list(station)),
+        None => None,
+    })
 }
 
 /// The stations of a job, in order of sites. None where one of them can't be a station.
-fn stations_of(alloc: Global, job: &Job) -> Result<Option<Vec<RowStation>>, AllocError>
+fn stations_of(
+    alloc: Global,
+    job: &Job,
+    by_rows: bool,
+) -> Result<Option<Vec<SiteStation>>, AllocError>
     ensures of { IfOk result (λ o. IfSome o (λ stations. AreRowsOf job.now stations.items)) }
     ensures by_site { IfOk result (λ o. IfSome o (λ stations. AreBySite stations.items)) }
     ensures len { IfOk result
@@ -134,7 +150,7 @@ fn stations_of(alloc: Global, job: &Job) -> Result<Option<Vec<RowStation>>, Allo
     let mut stations = Vec::with_capacity(alloc, all.len())?;
     let mut site = 0u8;
     for ends in all {
-        let Some(station) = station_of(alloc, job, site, &flat, ends)? else {
+        let Some(station) = station_of(alloc, job, site, &flat, ends, by_rows)? else {
             return Ok(None);
         };
         stations.push_reserved(station);
@@ -162,7 +178,7 @@ fn goes_by_rows(alloc: Global, plan: &Plan) -> Result<bool, AllocError>
 /// # Errors
 ///
 /// An error means that memory ran out. Nothing is left then.
-pub fn row_stations(alloc: Global, job: &Job) -> Result<Option<Vec<RowStation>>, AllocError>
+pub fn row_stations(alloc: Global, job: &Job) -> Result<Option<Vec<SiteStation>>, AllocError>
     ensures by_rows { IfOk result (λ o. IfSome o (λ stations. GoesByRows job.now.plan)) }
     ensures of { IfOk result (λ o. IfSome o (λ stations. AreRowsOf job.now stations.items)) }
     ensures by_site { IfOk result (λ o. IfSome o (λ stations. AreBySite stations.items)) }
@@ -172,5 +188,20 @@ pub fn row_stations(alloc: Global, job: &Job) -> Result<Option<Vec<RowStation>>,
     if !goes_by_rows(alloc, job.plan())? {
         return Ok(None);
     }
-    stations_of(alloc, job)
+    stations_of(alloc, job, true)
+}
+
+/// The stations of a job whose sites go through their flows once an instant, in order of sites, over one copy of its program: all links are
+/// open, with the plan's capacity, and each end is at its site. None where one of the sites can't be a station.
+///
+/// # Errors
+///
+/// An error means that memory ran out. Nothing is left then.
+pub fn list_stations(alloc: Global, job: &Job) -> Result<Option<Vec<SiteStation>>, AllocError>
+    ensures of { IfOk result (λ o. IfSome o (λ stations. AreRowsOf job.now stations.items)) }
+    ensures by_site { IfOk result (λ o. IfSome o (λ stations. AreBySite stations.items)) }
+    ensures len { IfOk result
+        (λ o. IfSome o (λ stations. vec_len stations ≡ sites_of job.now.plan)) }
+{
+    stations_of(alloc, job, false)
 }

@@ -8,7 +8,7 @@ ghost use Rattle.lurun_rows.specs.Rows.{AreRowsOf};
 
 use crate::collecting::collect_rows;
 use crate::crew::reports_by_rows;
-use lublock_site::station::RowStation;
+use crate::station::SiteStation;
 use luflow::Outputs;
 use lurun_reports::RunError;
 use lurun_threads::Gate;
@@ -32,7 +32,7 @@ use std::thread::Threads;
 pub fn run_rows<R: Threads + Wait + Clock + Sync, G: Gate>(
     rt: &R,
     alloc: Global,
-    stations: Vec<RowStation>,
+    stations: Vec<SiteStation>,
     workers: u8,
     gate: &G,
 ) -> Result<Option<Outputs>, RunError>

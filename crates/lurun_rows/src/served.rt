@@ -4,8 +4,9 @@ ghost use Rattle.std.specs.Prelude.{◌≡◌, ◌<◌, ◌+◌, IfSome, vec_len
 ghost use Rattle.lurun_rows.specs.Rows.{AreReportsOf};
 ghost use Rattle.lurun_rows.specs.Crew.{HasRoom, IsNewRowShare, GoesOn};
 
+use crate::station::SiteStation;
 use lublock_site::report::RowReport;
-use lublock_site::station::{RowStation, Went};
+use lublock_site::station::Went;
 use lurun_threads::Gate;
 use std::marker::Model;
 use std::rt::Clock;
@@ -16,7 +17,7 @@ use std::time::{Duration, Instant};
 /// A station as a worker goes round it, and the instant that the gate was called with last.
 #[derive(Drop)]
 pub struct ServedRows {
-    station: RowStation,
+    station: SiteStation,
     reported: Option<u32>,
 }
 
@@ -29,7 +30,7 @@ impl Model for ServedRows {
 }
 
 /// A new station, as a worker serves it.
-pub fn served_of(station: RowStation) -> ServedRows
+pub fn served_of(station: SiteStation) -> ServedRows
     ensures { result ≡ station }
 {
     ServedRows {

@@ -1,5 +1,5 @@
 -- What the end of a call says.
-use Rattle.std.proofs.Common.{◌≡◌, ◌≢◌, ◌⊎◌, ℕ, Bool, false, List, [], subst, refl, sym, ◌∙◌, inl, inr, arith}
+use Rattle.std.proofs.Common.{◌≡◌, ◌≢◌, ◌⊎◌, ℕ, Bool, true, false, cond, List, [], subst, refl, sym, ap, ◌∙◌, inl, inr, arith}
 use Rattle.std.specs.Io.KnownBytes.{Appends}
 use Rattle.clap.specs.declared.error.kind.ErrorKind.{ErrorKind}
 use Rattle.clap.specs.declared.error.kind.ErrorKind.TheVariants as clap
@@ -11,21 +11,29 @@ use Rattle.lutab.specs.declared.error.TabError.TheVariants as tab
 use Rattle.lusdist_shell.specs.declared.schedule.ScheduleError.TheVariants as schedule
 use Rattle.lusdist_shell.specs.declared.request.Request.{Request}
 use Rattle.lusdist_shell.specs.declared.request.Request.TheVariants.{Check, Eval, Plan, Replay, Run, Explain}
-use Rattle.lusdist_shell.specs.declared.request.ReplayRequest.{ReplayRequest}
 use Rattle.lusdist_shell.specs.declared.request.TurnsForm.{TurnsForm}
 use Rattle.lusdist_shell.specs.declared.request.TurnsForm.TheVariants.{Nothing}
 use Rattle.lusdist_shell.specs.Request.{IsAskedBy}
 use Rattle.lusdist_call.specs.declared.call_error.CallError.{CallError}
 use Rattle.lusdist_call.specs.declared.call_error.CallError.TheVariants.{CannotRead, CannotWrite, NotAscii, Syntax, Rules, Flat, Place, Table, Schedule, Fault, LinkLost, NoThread, OutOfMemory, Mistaken}
 use Rattle.std.specs.Prelude.{Option}
-use Rattle.lusdist_shell.specs.Dumps.{Written}
-use Rattle.lusdist_call.specs.Answers.{IsAnswer, IsDone, AskForNoTrace}
+use Rattle.lusdist_shell.specs.Dumps.{Written, DumpFacts}
+use Rattle.lusdist_call.specs.Answers.{IsAnswer, IsDone, AskForNoNotes, IsQuiet, AreCheckNotes}
+use Rattle.lusdist_call.specs.Answers.AreCheckNotes.{unasked, warned}
+use Rattle.luplace_report.specs.Idle.{idle_text}
+use Rattle.lusdist_shell.specs.declared.request.CheckRequest.{CheckRequest}
 use Rattle.lusdist_call.specs.Asked.{AreNotesOf}
 use Rattle.lusdist_call.specs.Files.{IsUnfiled}
 use Rattle.lusdist_call.specs.Statuses.{status_of}
 use Rattle.lusdist_call.specs.Stopped.{IsRefusal}
-use Rattle.lusdist_call.specs.Left.{Streams, IsEnded, IsHelp}
+use Rattle.lusdist_call.specs.Left.{Streams, HasError, IsEnded, IsHelp, IsCallEnded}
 use Rattle.lusdist_call.specs.Left.IsEnded.{answered, refused, undumped, unwritten}
+use Rattle.lusdist_call.specs.Left.IsCallEnded.{overwriting, shut, no_memory}
+use Rattle.lusdist_call.specs.Lines.{line_of}
+use Rattle.lusdist_call.specs.Targets.{IsDumpRefused, AskOver}
+use Rattle.lusdist_call.specs.declared.mistake.Mistake.TheVariants.{UnknownCode, NoChart, Backwards, Overwritten}
+use Rattle.clap.specs.Words.{fault_of}
+use Rattle.lusdist_shell.specs.CommandLine.{lusdist}
 use Rattle.lusdist_shell.specs.Files.{FileFacts}
 
 -- which kind of error the parser of the command line reports
@@ -53,14 +61,19 @@ which clap.Io = mistake (λ h. cc) (λ h. cc) (λ h. cc)
 which clap.Format = mistake (λ h. cc) (λ h. cc) (λ h. cc)
 which clap.OutOfMemory = memory refl
 
--- where no turns are to be reported there are no notes
-no_notes : (gives : FileFacts) (request : Request) (text notes : List ℕ) (dump : Option (List ℕ)) → ((replay : ReplayRequest) → request ≡ Replay replay → replay.turns ≡ Nothing) → IsAnswer gives request text notes dump → notes ≡ []
-no_notes gives (Check request) text notes dump quiet is = is.1.0
+-- no notes are asked for of a check
+no_check_notes : (request : CheckRequest) (bytes notes : List ℕ) → request.warn ≡ false → AreCheckNotes request bytes notes → notes ≡ []
+no_check_notes request bytes notes quiet (unasked e none) = none
+no_check_notes request bytes notes quiet (warned program warnings asked spelled placed all lines) = absurd (let clash : true ≡ false = sym asked ∙ quiet in cc)
+
+-- where neither warnings nor turns are to be reported there are no notes
+no_notes : (gives : FileFacts) (request : Request) (text notes : List ℕ) (dump : Option (List ℕ)) → IsQuiet request → IsAnswer gives request text notes dump → notes ≡ []
+no_notes gives (Check request) text notes dump quiet is = no_check_notes request is.0.program notes quiet is.0.notes_are
 no_notes gives (Eval request) text notes dump quiet is = is.1
-no_notes gives (Plan request) text notes dump quiet is = is.1.0
+no_notes gives (Plan request) text notes dump quiet is = is.0.notes_are ∙ ap (λ (b : Bool). cond b (idle_text request.place.now is.0.plan) []) quiet
 no_notes gives (Run request) text notes dump quiet is = is.1
 no_notes gives (Explain request) text notes dump quiet is = is.1.0
-no_notes gives (Replay request) text notes dump quiet is = subst (λ (form : TurnsForm). AreNotesOf is.job is.turns request.finish form is.printed.world.dones notes) (quiet request refl) is.printed.notes_are
+no_notes gives (Replay request) text notes dump quiet is = subst (λ (form : TurnsForm). AreNotesOf is.job is.turns request.finish form is.printed.world.dones notes) quiet is.printed.notes_are
 
 -- a refusal has one of three statuses
 pub status_some : (stop : CallError) → (status_of stop ≡ 1) ⊎ ((status_of stop ≡ 2) ⊎ (status_of stop ≡ 3))
@@ -116,7 +129,7 @@ status_some NoThread = inr (inr refl)
 status_some (Mistaken reported) = inr (inl refl)
 status_some OutOfMemory = inr (inr refl)
 
-never_done : (stop : CallError) → status_of stop ≡ 0 → ⊥
+pub never_done : (stop : CallError) → status_of stop ≡ 0 → ⊥
 never_done stop e = elim (status_some stop) [
   | inl one ↦ absurd (omega (arith, e, one))
   | inr more ↦ elim more [ inl two ↦ absurd (omega (arith, e, two)) | inr three ↦ absurd (omega (arith, e, three)) ]
@@ -131,9 +144,9 @@ module _ {W V : Type 0} (gives : FileFacts) (words : List (List ℕ)) (request :
   done (unwritten text notes dump e answer are none begun) zero = absurd (omega (arith, e, zero))
 
   -- where it is done and no turns are to be reported, nothing goes to the error stream
-  pub quiet : AskForNoTrace words → IsEnded gives request status wrote streams → status ≡ 0 → streams.err_after ≡ streams.err
+  pub quiet : AskForNoNotes words → IsEnded gives request status wrote streams → status ≡ 0 → streams.err_after ≡ streams.err
   quiet none (answered text notes dump e answer are out) zero =
-      out.silent (no_notes gives request text notes dump (λ replay is. none replay (subst (IsAskedBy words) is asked)) answer)
+      out.silent (no_notes gives request text notes dump (none request asked) answer)
   quiet none (refused stop dump e stops leaves are err) zero = absurd (never_done stop (sym e ∙ zero))
   quiet none (undumped stop dump e is unfiled err) zero = absurd (omega (arith, e, zero))
   quiet none (unwritten text notes dump e answer are out begun) zero = absurd (omega (arith, e, zero))
@@ -168,3 +181,45 @@ unfiled_status path dump LinkLost wrote h = absurd h
 unfiled_status path dump NoThread wrote h = absurd h
 unfiled_status path dump (Mistaken reported) wrote h = absurd h
 unfiled_status path dump OutOfMemory wrote h = refl
+
+-- What a request that is refused for its dump says of the call.
+module _ (gives : FileFacts) (dumps : DumpFacts) (words : List (List ℕ)) (request : Request) (asked : IsAskedBy words request) where
+  -- it ends so
+  pub dump_ended : {W V : Type 0} (streams : Streams W V) (status : ℕ) → fault_of lusdist words ≡ [] → (stop : CallError) → IsDumpRefused dumps request stop → status ≡ status_of stop → HasError streams (line_of stop) → IsCallEnded gives dumps words status [] streams
+  dump_ended streams status none (CannotRead path) h e err = absurd h
+  dump_ended streams status none (CannotWrite path) h e err = shut request path none asked h e refl err
+  dump_ended streams status none NotAscii h e err = absurd h
+  dump_ended streams status none (Syntax reported) h e err = absurd h
+  dump_ended streams status none (Rules reported) h e err = absurd h
+  dump_ended streams status none (Flat reported) h e err = absurd h
+  dump_ended streams status none (Place reported) h e err = absurd h
+  dump_ended streams status none (Table reported) h e err = absurd h
+  dump_ended streams status none (Schedule reported) h e err = absurd h
+  dump_ended streams status none (Fault name instant kind) h e err = absurd h
+  dump_ended streams status none LinkLost h e err = absurd h
+  dump_ended streams status none NoThread h e err = absurd h
+  dump_ended streams status none OutOfMemory h e err = no_memory e refl err
+  dump_ended streams status none (Mistaken (UnknownCode code)) h e err = absurd h
+  dump_ended streams status none (Mistaken NoChart) h e err = absurd h
+  dump_ended streams status none (Mistaken (Backwards from to)) h e err = absurd h
+  dump_ended streams status none (Mistaken (Overwritten path role)) h e err = overwriting request path role none asked h e refl err
+
+  -- with status 2 where the dump would take the place of a file, and else with 3
+  pub dump_status : (stop : CallError) → IsDumpRefused dumps request stop → ((status_of stop ≡ 2) × AskOver dumps words) ⊎ (status_of stop ≡ 3)
+  dump_status (CannotRead path) h = absurd h
+  dump_status (CannotWrite path) h = inr refl
+  dump_status NotAscii h = absurd h
+  dump_status (Syntax reported) h = absurd h
+  dump_status (Rules reported) h = absurd h
+  dump_status (Flat reported) h = absurd h
+  dump_status (Place reported) h = absurd h
+  dump_status (Table reported) h = absurd h
+  dump_status (Schedule reported) h = absurd h
+  dump_status (Fault name instant kind) h = absurd h
+  dump_status LinkLost h = absurd h
+  dump_status NoThread h = absurd h
+  dump_status OutOfMemory h = inr refl
+  dump_status (Mistaken (UnknownCode code)) h = absurd h
+  dump_status (Mistaken NoChart) h = absurd h
+  dump_status (Mistaken (Backwards from to)) h = absurd h
+  dump_status (Mistaken (Overwritten path role)) h = inl (refl, record { request = request; asked = asked; path = path; role = role; over = h })

@@ -288,10 +288,10 @@ module _ (gives : FileFacts) (settled : HasOneText gives) where
       table_memory own.types (inputs_of own.variables) table inputs stop is short utf8
       (subst (λ (f : FlatView). IsTableRefused f.types (inputs_of f.variables) table stop) flat_eq (subst (λ b. IsTableRefused list.types (inputs_of list.variables) b stop) table_same refused))
 
-  check_outcome : (request : CheckRequest) (text : List ℕ) (stop : CallError) → IsChecked gives request text → IsCheckStopped gives request stop → SaysNothing stop
-  check_outcome request text stop is (check_program at) =
+  check_outcome : (request : CheckRequest) (text notes : List ℕ) (stop : CallError) → IsChecked gives request text notes → IsCheckStopped gives request stop → SaysNothing stop
+  check_outcome request text notes stop is (check_program at) =
       program_memory request.program.now request.main.now is.program is.flat stop is.program_given (record { tree = is.tree; spelled = is.spelled; flat_is = is.flat_is }) at
-  check_outcome request text stop is (check_memory e) = memory_is stop OutOfMemory e tt
+  check_outcome request text notes stop is (check_memory e) = memory_is stop OutOfMemory e tt
 
   fault_never : (request : EvalRequest) (text : List ℕ) (dump : Option (List ℕ)) → IsEvaluated gives request text dump → (name : List ℕ) (instant : ℕ) (kind : FaultKind) → IsFaultOf gives request name instant kind → ⊥
   fault_never request text dump is name instant kind fault =
@@ -327,11 +327,11 @@ module _ (gives : FileFacts) (settled : HasOneText gives) where
   refused_outcome request text dump stop is (eval_mistaken mistake found e) = absurd (none_some (mistake_in request) mistake is.meant found)
   refused_outcome request text dump stop is (eval_stopped meant at) = eval_outcome request text dump stop is at
 
-  plan_outcome : (request : PlanRequest) (text : List ℕ) (stop : CallError) → IsPlanned gives request text → IsPlanStopped gives request stop → SaysNothing stop
-  plan_outcome request text stop is (plan_files at) =
+  plan_outcome : (request : PlanRequest) (text notes : List ℕ) (stop : CallError) → IsPlanned gives request text notes → IsPlanStopped gives request stop → SaysNothing stop
+  plan_outcome request text notes stop is (plan_files at) =
       let asked = is.asked_for in
       plan_memory_of request.program.now request.place.now request.main.now asked.program asked.place is.plan stop asked.program_given asked.place_given asked.flat asked.plan_of at
-  plan_outcome request text stop is (plan_memory e) = memory_is stop OutOfMemory e tt
+  plan_outcome request text notes stop is (plan_memory e) = memory_is stop OutOfMemory e tt
 
   -- a job that the files give doesn't stop a call
   pub job_memory_of : (path place_path table_path main : List ℕ) (job : JobView) (stop : CallError) → IsJobFor gives path place_path table_path main job → StopsAtJob gives path place_path table_path main stop → SaysNothing stop
@@ -383,9 +383,9 @@ module _ (gives : FileFacts) (settled : HasOneText gives) where
   explain_outcome code text stop answer (explain_unknown name is none e) = absurd (none_some (explanation code) text none answer)
 
   pub one_outcome_of : (request : Request) (text notes : List ℕ) (dump : Option (List ℕ)) (stop : CallError) → IsAnswer gives request text notes dump → IsRequestStopped gives request stop → SaysNothing stop
-  one_outcome_of (Check request) text notes dump stop answer stopped = check_outcome request text stop answer.0 stopped
+  one_outcome_of (Check request) text notes dump stop answer stopped = check_outcome request text notes stop answer.0 stopped
   one_outcome_of (Eval request) text notes dump stop answer stopped = refused_outcome request text dump stop answer.0 stopped
-  one_outcome_of (Plan request) text notes dump stop answer stopped = plan_outcome request text stop answer.0 stopped
+  one_outcome_of (Plan request) text notes dump stop answer stopped = plan_outcome request text notes stop answer.0 stopped
   one_outcome_of (Replay request) text notes dump stop answer stopped = replay_outcome request text notes dump stop answer stopped
   one_outcome_of (AsksRun request) text notes dump stop answer stopped = run_outcome request text dump stop answer.0 stopped
   one_outcome_of (Explain request) text notes dump stop answer stopped = explain_outcome (code_in request) text stop answer.0 stopped

@@ -12,3 +12,4 @@ mod OneRefusal
 mod Stops
 mod Ends
 mod Headlines
+mod Tellings

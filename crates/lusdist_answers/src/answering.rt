@@ -1,45 +1,78 @@
 //! What a check, an evaluation, a plan and a run give, of the files that they ask for.
 
 ghost use Rattle.std.specs.Prelude.{◌≡◌, ◌<◌, length, IfOk, IfErr, None, string_bytes, option_map};
+ghost use Rattle.lutree.specs.Places.{places_view};
+ghost use Rattle.lutree.specs.Tree.{program_view};
+ghost use Rattle.lusyn.specs.Places.{ArePlacesOf};
+ghost use Rattle.lusyn.specs.Texts.{SpellsText};
 ghost use Rattle.lusdist_shell.specs.Request.{AreFew};
 ghost use Rattle.lusdist_shell.specs.declared.request.Request.{Request};
-ghost use Rattle.lusdist_call.specs.Answers.{IsChecked, IsPlanned, IsReplyTo};
+ghost use Rattle.lusdist_call.specs.Answers.{AreCheckNotes, IsReplyTo, plan_notes};
 ghost use Rattle.luflow.specs.Sound.{IsFit};
 ghost use Rattle.luflow.specs.Variables.{outputs_of};
 ghost use Rattle.lusdist_call.specs.Evaluated.{IsDumpedTo, IsNoFault, IsPosedBy};
 ghost use Rattle.lusdist_call.specs.Stopped.{IsCheckStopped, IsEvalStopped, IsPlanStopped, IsRefusalOf, IsRunStopped};
 ghost use Rattle.lusdist_call.specs.Mistakes.{mistake_in};
 ghost use Rattle.lusdist_call.specs.declared.call_error.CallError.{CallError};
+ghost use Rattle.lusdist_call.specs.declared.call_error.CallError.TheVariants.{OutOfMemory};
 
 use crate::evaluating::evaluation;
 use crate::jobs::job_for;
 use crate::planning::{plan_text, planned};
 use crate::running::run_table;
 use crate::sources::{flat_at, flattened, inputs_at, program_of};
+use luexplain::of_warnings;
 use luflow::{Flat, Inputs};
+use luplace::Plan;
+use luplace_report::report_idle;
 use lusdist_call::{CallError, Refusal, Reply, mistake_in, read};
 use lusdist_shell::{CheckRequest, EvalRequest, Files, PlanRequest, Progress, RunRequest};
+use lustat_warn::warnings;
 use lusyn::print_program;
-use std::alloc::Global;
+use lutree::Program;
+use std::alloc::{AllocError, Global};
 use std::rt::Clock;
 use std::sync::Wait;
 use std::thread::Threads;
 
-/// What a check prints: the canonical text of the program, which keeps all rules and has a flat program.
-pub fn check_text<F: Files>(
+/// The warnings of a program, a line each, where a check asks for them.
+fn check_notes(
+    alloc: Global,
+    request: CheckRequest<'_>,
+    bytes: &[u8],
+    program: &Program,
+) -> Result<String, AllocError>
+    requires spelled { SpellsText bytes.now (program_view program.now) }
+    requires places { ArePlacesOf bytes.now (places_view program.now) }
+    ensures { IfOk result (λ notes. AreCheckNotes request.entry bytes.now (string_bytes notes)) }
+{
+    if !request.warn {
+        return Ok(String::new(alloc));
+    }
+    let found = warnings(alloc, program, request.main)?;
+    of_warnings(alloc, request.program, bytes, program, &found)
+}
+
+/// What a check gives: the canonical text of the program, which keeps all rules and has a flat program, and its warnings, where they are
+/// asked for.
+pub fn check_answer<F: Files>(
     alloc: Global,
     request: CheckRequest<'_>,
     files: &F,
-) -> Result<String, CallError>
-    ensures text { IfOk result (λ text. IsChecked (F.gives files.now) request.entry
-        (string_bytes text)) }
+) -> Result<Reply, CallError>
+    ensures reply { IfOk result (IsReplyTo (F.gives files.now) (Request.Check request.entry)) }
     ensures stopped { IfErr result (IsCheckStopped (F.gives files.now) request.entry) }
 {
     let bytes = read(alloc, files, request.program)?;
     let program = program_of(alloc, &bytes)?;
     let _flat = flattened(alloc, &program, request.main)?;
     let text = print_program(alloc, &program)?;
-    Ok(text)
+    let notes = check_notes(alloc, request, &bytes, &program)?;
+    Ok(Reply {
+        text,
+        notes,
+        dump: None,
+    })
 }
 
 /// The flat program and the inputs of the files that an evaluation asks for. They are read and refused in the order of the
@@ -93,18 +126,34 @@ pub fn eval_answer<F: Files>(
     }
 }
 
-/// What a plan prints: where each variable stands, and all links, in the form that is asked for.
+/// The sites at which nothing stands, a line each, where a plan asks for warnings.
+fn plan_notes(alloc: Global, request: PlanRequest<'_>, plan: &Plan) -> Result<String, AllocError>
+    ensures { IfOk result (λ notes. string_bytes notes ≡ plan_notes request.entry plan.now) }
+{
+    if !request.warn {
+        return Ok(String::new(alloc));
+    }
+    report_idle(alloc, request.place, plan)
+}
+
+/// What a plan gives: where each variable stands, and all links, in the form that is asked for, and the sites at which nothing stands,
+/// where they are asked for.
 pub fn plan_answer<F: Files>(
     alloc: Global,
     request: PlanRequest<'_>,
     files: &F,
-) -> Result<String, CallError>
-    ensures text { IfOk result (λ text. IsPlanned (F.gives files.now) request.entry
-        (string_bytes text)) }
+) -> Result<Reply, CallError>
+    ensures reply { IfOk result (IsReplyTo (F.gives files.now) (Request.Plan request.entry)) }
     ensures stopped { IfErr result (IsPlanStopped (F.gives files.now) request.entry) }
 {
     let plan = planned(alloc, files, request.program, request.place, request.main)?;
-    plan_text(alloc, &plan, request.form)
+    let text = plan_text(alloc, &plan, request.form)?;
+    let notes = plan_notes(alloc, request, &plan)?;
+    Ok(Reply {
+        text,
+        notes,
+        dump: None,
+    })
 }
 
 /// What a run gives: the table of the outputs of the program, which its sites gave together, and their dump.

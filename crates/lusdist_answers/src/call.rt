@@ -6,16 +6,20 @@ ghost use Rattle.clap.specs.Words.{takes};
 ghost use Rattle.lusdist_shell.specs.CommandLine.{lusdist};
 ghost use Rattle.lusdist_shell.specs.Request.{HasFewWorkers};
 ghost use Rattle.lusdist_shell.specs.Dumps.{Written};
-ghost use Rattle.lusdist_call.specs.Answers.{IsReplyTo, AskForNoTrace, IsDone};
-ghost use Rattle.lusdist_call.specs.Files.{dump_path};
+ghost use Rattle.lusdist_shell.specs.Sinks.{HasLine};
+ghost use Rattle.lusdist_call.specs.Answers.{IsReplyTo, AskForNoNotes, IsDone};
+ghost use Rattle.lusdist_call.specs.Lines.{line_of};
+ghost use Rattle.lusdist_call.specs.Statuses.{status_of};
 ghost use Rattle.lusdist_call.specs.Stopped.{IsRefusal, IsRefusalOf};
+ghost use Rattle.lusdist_call.specs.Targets.{AskOver};
 ghost use Rattle.lusdist_call.specs.Left.{IsEnded, IsCallEnded};
 
-use crate::answering::{check_text, eval_answer, plan_answer, run_answer};
+use crate::answering::{check_answer, eval_answer, plan_answer, run_answer};
 use crate::explaining::explained;
 use crate::refusals::put_refusal;
 use crate::replaying::replay_answer;
-use lusdist_call::{Refusal, Reply, file_dump, put_reply};
+use crate::targets::{dump_path, dump_refused};
+use lusdist_call::{CallError, Refusal, Reply, file_dump, put_reply};
 use lusdist_shell::{Dumps, Files, Progress, Request, Sink, parse, put_mistake};
 use std::alloc::Global;
 use std::io::Write;
@@ -36,24 +40,12 @@ fn answer<R: Threads + Wait + Clock + Sync, F: Files, P: Progress>(
     ensures refusal { IfErr result (IsRefusalOf (F.gives files.now) request.entry) }
 {
     match request {
-        Request::Check(request) => Ok(Reply::plain(alloc, check_text(alloc, request, files)?)),
+        Request::Check(request) => Ok(check_answer(alloc, request, files)?),
         Request::Eval(request) => eval_answer(alloc, request, files),
-        Request::Plan(request) => Ok(Reply::plain(alloc, plan_answer(alloc, request, files)?)),
+        Request::Plan(request) => Ok(plan_answer(alloc, request, files)?),
         Request::Replay(request) => Ok(replay_answer(alloc, request, files)?),
         Request::Run(request) => Ok(run_answer(rt, alloc, request, files, progress)?),
         Request::Explain(request) => Ok(Reply::plain(alloc, explained(alloc, request)?)),
-    }
-}
-
-/// The path of the file that a request asks a dump to be written into.
-fn dump_path(request: Request<'_>) -> Option<&str>
-    ensures { option_map (λ s. s.now) result ≡ dump_path request.entry }
-{
-    match request {
-        Request::Eval(asked) => asked.vcd,
-        Request::Replay(asked) => asked.vcd,
-        Request::Run(asked) => asked.vcd,
-        _ => None,
     }
 }
 
@@ -144,6 +136,16 @@ fn perform<R: Threads + Wait + Clock + Sync, F: Files, D: Dumps, P: Progress, W:
     }
 }
 
+/// Writes the line of a stop to the error stream, and gives the exit status.
+fn put_line<V: Write>(stop: CallError, err: &mut Sink<V>) -> u8
+    ensures line { HasLine V.contents err.old err.new (line_of stop) }
+    ensures status { result ≡ status_of stop }
+{
+    let status = stop.status();
+    err.put_line(stop);
+    status
+}
+
 /// One call of the program, of which the first word is the program's name. Gives the exit status: 0 where it is done,
 /// also where a site of a replay faulted, and for help; 1 where a text is refused; 2 for a mistake in the words or a file that
 /// can't be read; 3 for a fault of an evaluation or a run, a run that was cut short, a lack of memory, or output or a dump that can't be
@@ -153,7 +155,8 @@ fn perform<R: Threads + Wait + Clock + Sync, F: Files, D: Dumps, P: Progress, W:
 /// Where a dump is asked for, its file is written before the answer, by one write: of an evaluation that of the whole table, or, where it
 /// stops at a fault, of all instants before it; of a run that of the whole outputs, and none where it stops; of a replay that of the
 /// outputs as far as they were passed. Where it can't be written, that is reported in place of the answer or the fault. Nothing else is
-/// written.
+/// written. Before anything is read a dump that would take the place of a file of the call is refused, as a mistake in the words; and
+/// one that can't be written, as far as that is seen by then.
 ///
 /// Where the progress of a run is asked for, the threads that serve the sites report it. It is handed the number
 /// of a site and an instant and nothing of the values; what it does with them isn't in the contract.
@@ -169,7 +172,9 @@ pub fn serve<R: Threads + Wait + Clock + Sync, F: Files, D: Dumps, P: Progress, 
 ) -> u8
     // With which status a call ends, what it wrote into files, and what it leaves in the two streams.
     ensures ended { (wrote : List Written) × (D.written dumps.new ≡ D.written dumps.old ++ wrote)
-        × IsCallEnded (F.gives files.now) (map string_bytes words.entry.now) result wrote (record {
+        × IsCallEnded (F.gives files.now)
+        (record { same = D.same dumps.old; shut = D.shut dumps.old })
+        (map string_bytes words.entry.now) result wrote (record {
           out = out.old;
           out_after = out.new;
           err = err.old;
@@ -187,17 +192,22 @@ pub fn serve<R: Threads + Wait + Clock + Sync, F: Files, D: Dumps, P: Progress, 
     ensures refused { (result ≡ 1) ⊎ (result ≡ 2) → out.new ≡ out.old }
 
     // Where a text is refused, it is for what the text says; and where words that the command line takes end with status 2, a
-    // file can't be read, or no page has the code that is to be explained.
+    // file can't be read, no page has the code that is to be explained, or a dump would take the place of a file of the call.
     ensures text { result ≡ 1 → IsRefusal (F.gives files.now) (map string_bytes words.entry.now) 1 }
     ensures file { takes lusdist (map string_bytes words.entry.now) ≡ true → result ≡ 2
-        → IsRefusal (F.gives files.now) (map string_bytes words.entry.now) 2 }
+        → IsRefusal (F.gives files.now) (map string_bytes words.entry.now) 2
+        ⊎ AskOver (record { same = D.same dumps.old; shut = D.shut dumps.old })
+        (map string_bytes words.entry.now) }
 
-    // Where the call is done and no turns are asked for, nothing goes to the error stream.
-    ensures silent { result ≡ 0 → AskForNoTrace (map string_bytes words.entry.now)
+    // Where the call is done and neither warnings nor turns are asked for, nothing goes to the error stream.
+    ensures silent { result ≡ 0 → AskForNoNotes (map string_bytes words.entry.now)
         → err.new ≡ err.old }
 {
     match parse(alloc, words) {
-        Ok(request) => perform(rt, alloc, request, files, dumps, progress, out, err),
+        Ok(request) => match dump_refused(alloc, dumps, request) {
+            Some(stop) => put_line(stop, err),
+            None => perform(rt, alloc, request, files, dumps, progress, out, err),
+        },
         Err(mistake) => put_mistake(out, err, &mistake),
     }
 }

@@ -8,7 +8,7 @@
 //! - [`planning`]: the plan of a program at a placement, and its texts.
 //! - [`evaluating`]: the main variables of a program at a table, as a table or as a chart; [`running`]: the table of its outputs, made by its sites
 //!   on threads.
-//! - `filing`: the dumps of a run and of a replay.
+//! - `filing`: the dumps of a run and of a replay. `targets`: where a dump goes, before a file is read.
 //! - [`explaining`]: a page of the manual. `reasons`: why a text is refused; `refusals`: what is printed of that.
 //! - [`CallError`], [`Mistake`] of `lusdist_call`: why a call stops.
 //! - [`laws`]: a call has one outcome, one refusal and one status.
@@ -27,6 +27,7 @@ mod refusals;
 pub mod replaying;
 pub mod running;
 pub mod sources;
+mod targets;
 
 pub use call::serve;
 pub use lusdist_call::{CallError, Mistake};

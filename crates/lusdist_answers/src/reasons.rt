@@ -1,17 +1,20 @@
 //! Why a text is refused.
 
-ghost use Rattle.std.specs.Prelude.{◌≡◌, IfOk, string_bytes};
-ghost use Rattle.lusdist_call.specs.Reasons.{program_path, place_path, table_path, schedule_path, blamed_path, IsReason};
+ghost use Rattle.std.specs.Prelude.{◌≡◌, IfOk};
+ghost use Rattle.lusdist_call.specs.Reasons.{program_path, place_path, table_path, schedule_path, blamed_path, main_name, AreFaultsAt, IsReason};
 ghost use Rattle.lusdist_call.specs.declared.call_error.CallError.TheVariants as stops;
 ghost use Rattle.lucore.specs.declared.error.CoreError.TheVariants as flats;
 
 use crate::sources::program_of;
 use lucore::CoreError;
-use luexplain::{of_cycle, of_fault, of_place, of_rule, of_schedule, of_size, of_syntax, of_table};
+use luexplain::{
+    Explanation, of_cycle, of_fault, of_place, of_rule, of_schedule, of_size, of_syntax, of_table,
+};
 use luflow::FaultKind;
 use luplace_file::PlaceError;
 use lusdist_call::{CallError, read};
 use lusdist_shell::{Files, Request, ScheduleError};
+use lustat::all_faults;
 use lustat_rules::StatError;
 use lusyn::SynError;
 use lutab::TabError;
@@ -30,6 +33,7 @@ struct Asked<'a> {
 
 /// What a request names.
 fn asked_in<'a>(request: Request<'a>) -> Asked<'a>
+    ensures main { result.main.now ≡ main_name request.entry }
     ensures program { result.program.now ≡ program_path request.entry }
     ensures place { result.place.now ≡ place_path request.entry }
     ensures table { result.table.now ≡ table_path request.entry }
@@ -65,18 +69,16 @@ fn of_text<F: Files>(
     files: &F,
     path: &str,
     error: &SynError,
-) -> Result<String, CallError>
-    ensures { IfOk result (λ reported. IsReason (F.gives files.now) path.now (stops.Syntax error.now)
-        (string_bytes reported)) }
+) -> Result<Explanation, CallError>
+    ensures { IfOk result (IsReason (F.gives files.now) path.now (stops.Syntax error.now)) }
 {
     let text = read(alloc, files, path)?;
     Ok(of_syntax(alloc, path, &text, error)?)
 }
 
 /// Why a program's file isn't even text.
-fn of_bytes<F: Files>(alloc: Global, files: &F, path: &str) -> Result<String, CallError>
-    ensures { IfOk result (λ reported. IsReason (F.gives files.now) path.now stops.NotAscii
-        (string_bytes reported)) }
+fn of_bytes<F: Files>(alloc: Global, files: &F, path: &str) -> Result<Explanation, CallError>
+    ensures { IfOk result (IsReason (F.gives files.now) path.now stops.NotAscii) }
 {
     let text = read(alloc, files, path)?;
     Ok(of_syntax(alloc, path, &text, &SynError::NotAscii)?)
@@ -89,9 +91,8 @@ fn of_rules<F: Files>(
     path: &str,
     main: &str,
     error: &StatError,
-) -> Result<String, CallError>
-    ensures { IfOk result (λ reported. IsReason (F.gives files.now) path.now (stops.Rules error.now)
-        (string_bytes reported)) }
+) -> Result<Explanation, CallError>
+    ensures { IfOk result (IsReason (F.gives files.now) path.now (stops.Rules error.now)) }
 {
     let text = read(alloc, files, path)?;
     let program = program_of(alloc, &text)?;
@@ -105,9 +106,8 @@ fn of_flat<F: Files>(
     path: &str,
     main: &str,
     error: &CoreError,
-) -> Result<String, CallError>
-    ensures { IfOk result (λ reported. IsReason (F.gives files.now) path.now (stops.Flat error.now)
-        (string_bytes reported)) }
+) -> Result<Explanation, CallError>
+    ensures { IfOk result (IsReason (F.gives files.now) path.now (stops.Flat error.now)) }
 {
     let text = read(alloc, files, path)?;
     match error {
@@ -129,9 +129,9 @@ fn of_value<F: Files>(
     variable: &str,
     instant: u32,
     kind: FaultKind,
-) -> Result<String, CallError>
-    ensures { IfOk result (λ reported. IsReason (F.gives files.now) path.now
-        (stops.Fault variable.now instant kind) (string_bytes reported)) }
+) -> Result<Explanation, CallError>
+    ensures { IfOk result (IsReason (F.gives files.now) path.now
+        (stops.Fault variable.now instant kind)) }
 {
     let text = read(alloc, files, path)?;
     let program = program_of(alloc, &text)?;
@@ -150,9 +150,9 @@ fn of_placement<F: Files>(
     files: &F,
     asked: Asked<'_>,
     error: &PlaceError,
-) -> Result<String, CallError>
-    ensures { IfOk result (λ reported. IsReason (F.gives files.now) asked.entry.place.now
-        (stops.Place error.now) (string_bytes reported)) }
+) -> Result<Explanation, CallError>
+    ensures { IfOk result (IsReason (F.gives files.now) asked.entry.place.now
+        (stops.Place error.now)) }
 {
     let program = program_at(alloc, files, asked.program)?;
     let text = read(alloc, files, asked.place)?;
@@ -165,9 +165,9 @@ fn of_inputs<F: Files>(
     files: &F,
     asked: Asked<'_>,
     error: &TabError,
-) -> Result<String, CallError>
-    ensures { IfOk result (λ reported. IsReason (F.gives files.now) asked.entry.table.now
-        (stops.Table error.now) (string_bytes reported)) }
+) -> Result<Explanation, CallError>
+    ensures { IfOk result (IsReason (F.gives files.now) asked.entry.table.now
+        (stops.Table error.now)) }
 {
     let program = program_at(alloc, files, asked.program)?;
     let text = read(alloc, files, asked.table)?;
@@ -180,9 +180,9 @@ fn of_turns<F: Files>(
     files: &F,
     path: &str,
     error: &ScheduleError,
-) -> Result<String, CallError>
-    ensures { IfOk result (λ reported. IsReason (F.gives files.now) path.now
-        (stops.Schedule error.now) (string_bytes reported)) }
+) -> Result<Explanation, CallError>
+    ensures { IfOk result (IsReason (F.gives files.now) path.now
+        (stops.Schedule error.now)) }
 {
     let text = read(alloc, files, path)?;
     Ok(of_schedule(alloc, path, &text, error)?)
@@ -194,9 +194,9 @@ pub fn reason<F: Files>(
     files: &F,
     request: Request<'_>,
     stop: &CallError,
-) -> Result<String, CallError>
-    ensures { IfOk result (λ reported. IsReason (F.gives files.now)
-        (blamed_path request.entry stop.now) stop.now (string_bytes reported)) }
+) -> Result<Explanation, CallError>
+    ensures { IfOk result (IsReason (F.gives files.now)
+        (blamed_path request.entry stop.now) stop.now) }
 {
     let asked = asked_in(request);
     match stop {
@@ -222,4 +222,24 @@ pub fn reason<F: Files>(
         ),
         _ => Err(CallError::OutOfMemory),
     }
+}
+
+/// All faults of the first stage that has any, of the program that a request names, which is read once more. An error where its file can't be
+/// read again or isn't what it was, or where memory runs out.
+pub fn faults_of<F: Files>(
+    alloc: Global,
+    files: &F,
+    request: Request<'_>,
+) -> Result<Vec<StatError>, CallError>
+    ensures { IfOk result (λ faults. AreFaultsAt (F.gives files.now) (program_path request.entry)
+        (main_name request.entry) faults.items) }
+{
+    let asked = asked_in(request);
+    let text = read(alloc, files, asked.program)?;
+    let program = program_of(alloc, &text)?;
+    let faults = all_faults(alloc, &program, asked.main)?;
+    if faults.is_empty() {
+        return Err(CallError::OutOfMemory);
+    }
+    Ok(faults)
 }

@@ -1,13 +1,21 @@
-//! A refusal on the error stream: its line, and its reason behind it where that is asked for.
+//! What is told of a refusal on the error stream.
 
-ghost use Rattle.std.specs.Prelude.{◌≡◌, string_bytes};
-ghost use Rattle.lusdist_call.specs.Reasons.{asks_why, IsReportedBehind, HasRefusal};
+ghost use Rattle.std.specs.Prelude.{◌≡◌, ◌<◌, ◌≤◌, ◌++◌, List, ℕ, Some, codes, length, slice_get, IfOk, IfSome};
+ghost use Rattle.lustat_rules.specs.declared.error.StatError.{StatError};
+ghost use Rattle.luexplain.specs.declared.said.Explanation.{Explanation as AnyExplanation};
+ghost use Rattle.lusdist_call.specs.Lines.{line_of, is_inside_word, named};
+ghost use Rattle.lusdist_call.specs.Reasons.{asks_all, asks_short, asks_why, blamed_path, count_text, explained_text, main_name, program_path, short_text, AreFaultsAt, AreTold, HasRefusal, IsReason, IsRefusalText, IsTold};
 ghost use Rattle.lusdist_call.specs.Statuses.{status_of};
+ghost use Rattle.lusdist_call.specs.declared.call_error.CallError.TheVariants as stops;
+ghost use Rattle.std.specs.List.{prefix_len};
 
-use crate::reasons::reason;
+use crate::reasons::{faults_of, reason};
+use luexplain::Explanation;
 use lusdist_call::CallError;
 use lusdist_shell::{Files, Request, Sink};
-use std::alloc::Global;
+use lustat_rules::StatError;
+use std::alloc::{AllocError, Global};
+use std::fmt;
 use std::io::Write;
 
 /// Whether a request asks why a text is refused.
@@ -24,27 +32,229 @@ fn asks_why(request: Request<'_>) -> bool
     }
 }
 
-/// What goes behind the line of a refusal: where the request asks for it, where that stands in the text that is to blame, what is wrong there, and how
-/// to mend it. The texts are read once more. Nothing where no text is to blame, where its file can't be read again, or where memory runs out.
-fn reported_behind<F: Files>(
+/// Whether a request asks for a refusal in one line, with its place.
+fn asks_short(request: Request<'_>) -> bool
+    ensures { result ≡ asks_short request.entry }
+{
+    match request {
+        Request::Check(asked) => asked.short,
+        Request::Eval(asked) => asked.short,
+        Request::Plan(asked) => asked.short,
+        Request::Replay(asked) => asked.short,
+        Request::Run(asked) => asked.short,
+        Request::Explain(_) => false,
+    }
+}
+
+/// Whether a request asks for all faults, where a rule is broken.
+fn asks_all(request: Request<'_>, stop: &CallError) -> bool
+    ensures { result ≡ asks_all request.entry stop.now }
+{
+    match (request, stop) {
+        (Request::Check(asked), CallError::Rules(_)) => asked.all,
+        _ => false,
+    }
+}
+
+/// The length of the word that bytes begin with.
+fn word_len(bytes: &[u8]) -> usize
+    ensures length { result ≡ prefix_len is_inside_word bytes.now }
+    ensures within { result ≤ length bytes.now }
+{
+    bytes.iter().take_while(|byte| **byte != b' ').count()
+}
+
+/// The first two words of a line: the code and the name.
+fn named(line: &[u8]) -> &[u8]
+    ensures { result.now ≡ named line.now }
+{
+    let first = word_len(line);
+    if line.len() <= first {
+        return line;
+    }
+    let second = word_len(&line[first + 1..]);
+    &line[..first + 1 + second]
+}
+
+/// Adds a refusal in one line, with its place.
+fn put_short(
+    text: &mut Vec<u8>,
+    stop: &CallError,
+    line: &str,
+    reason: &Explanation,
+) -> Result<(), AllocError>
+    requires line { line.now ≡ line_of stop.now }
+    ensures { IfOk result (λ _. text.new.items
+        ≡ text.old.items ++ short_text stop.now reason.now) }
+{
+    let _ = stop;
+    text.extend_from_slice(reason.head())?;
+    text.extend_from_slice(b": ")?;
+    text.extend_from_slice(named(line.as_bytes()))?;
+    text.extend_from_slice(b": ")?;
+    text.extend_from_slice(reason.what.as_bytes())?;
+    text.extend_from_slice(b"\n")?;
+    Ok(())
+}
+
+/// Adds a refusal, and behind its line where it stands, what is wrong there, and how to mend it.
+fn put_explained(
+    text: &mut Vec<u8>,
+    stop: &CallError,
+    line: &str,
+    reason: &Explanation,
+) -> Result<(), AllocError>
+    requires line { line.now ≡ line_of stop.now }
+    ensures { IfOk result (λ _. text.new.items
+        ≡ text.old.items ++ explained_text stop.now reason.now) }
+{
+    let _ = stop;
+    text.extend_from_slice(line.as_bytes())?;
+    text.extend_from_slice(b"\n")?;
+    text.extend_from_slice(reason.place.as_bytes())?;
+    text.extend_from_slice(reason.what.as_bytes())?;
+    text.extend_from_slice(b"\n")?;
+    text.extend_from_slice(reason.mend.as_bytes())?;
+    text.extend_from_slice(b"\n")?;
+    Ok(())
+}
+
+/// The reason of a stop, where the request asks for it. The texts are read once more. None where no text is to blame, where its file can't be
+/// read again, or where memory runs out.
+fn asked_reason<F: Files>(
     alloc: Global,
     files: &F,
     request: Request<'_>,
     stop: &CallError,
-) -> String
-    ensures { IsReportedBehind (F.gives files.now) request.entry stop.now (string_bytes result) }
+) -> Option<Explanation>
+    ensures { IfSome result (IsReason (F.gives files.now) (blamed_path request.entry stop.now) stop.now) }
 {
-    if !asks_why(request) {
-        return String::new(alloc);
-    }
     match reason(alloc, files, request, stop) {
-        Ok(reported) => reported,
-        Err(_) => String::new(alloc),
+        Ok(reason) => Some(reason),
+        Err(_) => None,
     }
 }
 
-/// Writes a refusal to the error stream: its line, and its reason behind it. Where memory runs out for that, the line alone. Answers the
-/// status.
+/// Adds a refusal's line alone.
+fn put_alone(text: &mut Vec<u8>, stop: &CallError, line: &str) -> Result<(), AllocError>
+    requires line { line.now ≡ line_of stop.now }
+    ensures { IfOk result (λ _. text.new.items ≡ text.old.items ++ (line_of stop.now ++ codes "\n")) }
+{
+    let _ = stop;
+    text.extend_from_slice(line.as_bytes())?;
+    text.extend_from_slice(b"\n")?;
+    Ok(())
+}
+
+/// Adds a refusal as it is told.
+fn put_told<F: Files>(
+    alloc: Global,
+    text: &mut Vec<u8>,
+    files: &F,
+    request: Request<'_>,
+    stop: &CallError,
+) -> Result<(), AllocError>
+    ensures { IfOk result (λ _. (told : List ℕ) × IsTold (F.gives files.now) request.entry stop.now told
+        × (text.new.items ≡ text.old.items ++ told)) }
+{
+    let line = format!(in alloc; "{stop}")?;
+    if asks_short(request) {
+        if let Some(reason) = asked_reason(alloc, files, request, stop) {
+            return put_short(text, stop, line.as_str(), &reason);
+        }
+    } else if asks_why(request) {
+        if let Some(reason) = asked_reason(alloc, files, request, stop) {
+            return put_explained(text, stop, line.as_str(), &reason);
+        }
+    }
+    put_alone(text, stop, line.as_str())
+}
+
+/// The fault of this number, as a stop.
+fn fault_at(faults: &[StatError], j: usize) -> CallError
+    requires { j < length faults.now }
+    ensures { (fault : StatError) × (slice_get faults.now j ≡ Some fault) × (result ≡ stops.Rules fault) }
+{
+    CallError::Rules(faults[j])
+}
+
+/// Adds faults as they are told.
+fn put_each<F: Files>(
+    alloc: Global,
+    text: &mut Vec<u8>,
+    files: &F,
+    request: Request<'_>,
+    faults: &[StatError],
+) -> Result<(), AllocError>
+    ensures { IfOk result (λ _. (told : List ℕ) × AreTold (F.gives files.now) request.entry faults.now told
+        × (text.new.items ≡ text.old.items ++ told)) }
+{
+    for j in 0..faults.len() {
+        let stop = fault_at(faults, j);
+        put_told(alloc, text, files, request, &stop)?;
+    }
+    Ok(())
+}
+
+/// Adds how many faults there are.
+fn put_count(alloc: Global, text: &mut Vec<u8>, count: usize) -> Result<(), AllocError>
+    ensures { IfOk result (λ _. text.new.items ≡ text.old.items ++ count_text count) }
+{
+    let line = if count == 1 {
+        format!(in alloc; "{count} fault\n")?
+    } else {
+        format!(in alloc; "{count} faults\n")?
+    };
+    text.extend_from_slice(line.as_bytes())?;
+    Ok(())
+}
+
+/// All faults of the program that a request names, as they are told, and how many there are.
+fn all_text<F: Files>(alloc: Global, files: &F, request: Request<'_>) -> Result<Vec<u8>, CallError>
+    ensures { IfOk result (λ text. (faults : List StatError) × (told : List ℕ)
+        × AreFaultsAt (F.gives files.now) (program_path request.entry) (main_name request.entry) faults
+        × AreTold (F.gives files.now) request.entry faults told
+        × (text.items ≡ told ++ count_text (length faults))) }
+{
+    let faults = faults_of(alloc, files, request)?;
+    let mut text = Vec::new(alloc);
+    put_each(alloc, &mut text, files, request, &faults)?;
+    put_count(alloc, &mut text, faults.len())?;
+    Ok(text)
+}
+
+/// A refusal as it is told.
+fn one_text<F: Files>(
+    alloc: Global,
+    files: &F,
+    request: Request<'_>,
+    stop: &CallError,
+) -> Result<Vec<u8>, AllocError>
+    ensures { IfOk result (λ text. IsTold (F.gives files.now) request.entry stop.now text.items) }
+{
+    let mut text = Vec::new(alloc);
+    put_told(alloc, &mut text, files, request, stop)?;
+    Ok(text)
+}
+
+/// A stop, and that memory ran out for all faults.
+#[derive(Drop)]
+struct Cut {
+    stop: CallError,
+}
+
+impl fmt::Display for Cut {
+    ghost use Rattle.std.specs.Prelude.{Some, ◌++◌, codes};
+    ghost use Rattle.lusdist_call.specs.Lines.{line_of};
+
+    ghost output = { λ cut. Some (line_of cut.stop ++ codes "\nR2 OutOfMemory") };
+
+    fn fmt<W: fmt::Write>(&self, f: &mut fmt::Formatter<W>) -> fmt::Result {
+        write!(f, "{}\nR2 OutOfMemory", self.stop)
+    }
+}
+
+/// Writes what is told of a stop to the error stream. Answers the status.
 pub fn put_refusal<F: Files, V: Write>(
     alloc: Global,
     files: &F,
@@ -56,13 +266,15 @@ pub fn put_refusal<F: Files, V: Write>(
     ensures status { result ≡ status_of stop }
 {
     let status = stop.status();
-    let reported = reported_behind(alloc, files, request, &stop);
-    if reported.is_empty() {
-        err.put_line(stop);
+    if asks_all(request, &stop) {
+        match all_text(alloc, files, request) {
+            Ok(text) => err.put(&text),
+            Err(_) => err.put_line(Cut { stop }),
+        }
         return status;
     }
-    match format!(in alloc; "{stop}\n{reported}") {
-        Ok(text) => err.put(text.as_bytes()),
+    match one_text(alloc, files, request, &stop) {
+        Ok(text) => err.put(&text),
         Err(_) => err.put_line(stop),
     }
     status

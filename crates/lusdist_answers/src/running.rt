@@ -3,6 +3,7 @@
 ghost use Rattle.std.specs.Prelude.{◌≡◌, ◌<◌, [], length, IfOk, IfErr, IfSome, MatchResult, string_bytes, option_map};
 ghost use Rattle.luflow.specs.Variables.{outputs_of};
 ghost use Rattle.lurun_reports.specs.Reports.{AreOutputsOf};
+ghost use Rattle.lurun_rows.specs.Rows.{AreRowsOf};
 ghost use Rattle.lusdist_shell.specs.Request.{AreFew};
 ghost use Rattle.lutab.specs.Outputs.{output_text};
 ghost use Rattle.lusdist_call.specs.Ran.{IsRunError, IsRunReply, IsStopOfRun};
@@ -14,7 +15,7 @@ use crate::filing::dump_of_run;
 use luflow::Outputs;
 use luplace::{Job, Plan};
 use lurun::{Gate, RunError, run_crew, run_threads, stations};
-use lurun_rows::{row_stations, run_rows};
+use lurun_rows::{SiteStation, list_stations, row_stations, run_rows};
 use lusdist_call::{CallError, Reply};
 use lusdist_shell::{Progress, RunRequest};
 use lutab::write_outputs;
@@ -77,8 +78,58 @@ fn row_workers(workers: Option<u8>, sites: usize) -> u8
     }
 }
 
-/// The outputs of a job whose sites work in blocks of instants, run by so many workers, or with a thread for each site. None where some
-/// site can't, or where not all sites have ended, as at a fault.
+/// The most flows at a site that take less time for an instant than a thread takes to wait for another one.
+const FEW_FLOWS: usize = 40;
+
+/// Whether more flows than these few stand at a site.
+fn is_large(plan: &Plan, site: u8) -> bool {
+    let mut count = 0usize;
+    for i in 0..plan.flat().flows().len() {
+        if plan.stands(i, site) {
+            count = count.saturating_add(1);
+        }
+    }
+    count > FEW_FLOWS
+}
+
+/// The workers of a run by lists: so many; where that isn't given and no site is large, one for all sites.
+fn list_workers(workers: Option<u8>, plan: &Plan) -> Option<u8>
+    requires { AreFew workers }
+    ensures { AreFew result }
+{
+    if workers.is_some() {
+        return workers;
+    }
+    for site in 0..u8::try_from(plan.sites().len()).unwrap_or(u8::MAX) {
+        if is_large(plan, site) {
+            return None;
+        }
+    }
+    Some(1)
+}
+
+/// The stations of a job whose sites work in blocks of instants, or once an instant, and how many workers serve them. None where some site
+/// can't be one.
+fn stations_for(
+    alloc: Global,
+    job: &Job,
+    workers: Option<u8>,
+) -> Result<Option<(Vec<SiteStation>, Option<u8>)>, AllocError>
+    requires { AreFew workers }
+    ensures of { IfOk result (λ o. IfSome o (λ x. AreRowsOf job.now x.0.items)) }
+    ensures few { IfOk result (λ o. IfSome o (λ x. AreFew x.1)) }
+{
+    if let Some(stations) = row_stations(alloc, job)? {
+        return Ok(Some((stations, workers)));
+    }
+    let Some(stations) = list_stations(alloc, job)? else {
+        return Ok(None);
+    };
+    Ok(Some((stations, list_workers(workers, job.plan()))))
+}
+
+/// The outputs of a job whose sites work in blocks of instants, or once an instant, run by so many workers, or with a thread for each site
+/// that is worth one. None where some site can't, or where not all sites have ended, as at a fault.
 fn outputs_by_rows<R: Threads + Wait + Clock + Sync, G: Gate>(
     rt: &R,
     alloc: Global,
@@ -89,15 +140,16 @@ fn outputs_by_rows<R: Threads + Wait + Clock + Sync, G: Gate>(
     requires { AreFew workers }
     ensures { MatchResult result (λ o. IfSome o (AreOutputsOf job.now)) (IsRunError job.now) }
 {
-    let Some(stations) = row_stations(alloc, job)? else {
+    let found = stations_for(alloc, job, workers)?;
+    let Some((stations, workers)) = found else {
         return Ok(None);
     };
     let workers = row_workers(workers, stations.len());
     run_rows(rt, alloc, stations, workers, gate)
 }
 
-/// The outputs of a job that is run by so many workers, or with a thread for each site: by rows where that can be and isn't ruled out, else
-/// item by item.
+/// The outputs of a job that is run by so many workers, or with a thread for each site: by rows or instant by instant where that isn't ruled
+/// out and has outputs, else item by item.
 fn outputs_of_run<R: Threads + Wait + Clock + Sync, P: Progress>(
     rt: &R,
     alloc: Global,

@@ -1,6 +1,12 @@
 -- What each command answers: a text, notes beside it, and a dump, by what the files gave.
-use Rattle.std.specs.Prelude.{◌≡◌, ℕ, List, [], ◌∷◌, ◌++◌, Option, Some, None, string_bytes, option_map}
-use Rattle.lutree.specs.Tree.{ProgramTree}
+use Rattle.std.specs.Prelude.{◌≡◌, ℕ, true, false, if◌then◌else◌, List, [], ◌∷◌, ◌++◌, Option, Some, None}
+use Rattle.std.specs.Prelude.{string_bytes, option_map}
+use Rattle.lutree.specs.declared.program.Program.{Program}
+use Rattle.lutree.specs.Places.{places_view}
+use Rattle.lutree.specs.Tree.{ProgramTree, program_view}
+use Rattle.lustat_warn.specs.declared.warning.Warning.{Warning}
+use Rattle.lustat_warn.specs.Warnings.{AreWarnings}
+use Rattle.luexplain.specs.Warned.{AreWarned}
 use Rattle.luflow.specs.Program.{FlatView}
 use Rattle.luflow.specs.Tables.{OutputColumn}
 use Rattle.luworld.specs.Needs.{PlanView}
@@ -11,12 +17,14 @@ use Rattle.lumeaning.specs.RunReports.{RunReport, IsTrueOf}
 use Rattle.luweave_text.specs.WorldText.{IsWorldText}
 use Rattle.luweave_text.specs.Waves.{AreOutputSignals}
 use Rattle.luchart.specs.Signals.{Signal}
+use Rattle.lusyn.specs.Places.{ArePlacesOf}
 use Rattle.lusyn.specs.Texts.{SpellsText, IsReadBack}
 use Rattle.lusyn_printer.specs.Canonical.{canonical}
 use Rattle.lucore.specs.Result.{IsFlatOf}
 use Rattle.luplace_report.specs.Report.{report_text}
 use Rattle.luplace_report.specs.Table.{IsTableOf}
 use Rattle.luplace_report.specs.Graph.{graph_text}
+use Rattle.luplace_report.specs.Idle.{idle_text}
 use Rattle.lutab.specs.Outputs.{output_text}
 use Rattle.lusdist_shell.specs.Files.{FileFacts}
 use Rattle.lusdist_shell.specs.declared.request.CheckRequest.{CheckRequest}
@@ -38,10 +46,19 @@ use Rattle.lusdist_call.specs.Files.{dump_for, replay_path, run_path}
 use Rattle.lusdist_call.specs.RunReportTexts.{run_report_text, IsReportedBy}
 use Rattle.lusdist_call.specs.Waved.{run_dump, IsWorldDump, AreSignalsTrue}
 
+-- what goes to the error stream beside a check: where they are asked for, all warnings of the program that
+-- the bytes spell, a line each, in order; else nothing
+pub data AreCheckNotes (request : CheckRequest) (bytes notes : List ℕ) : Type 0 where
+  unasked : request.warn ≡ false → notes ≡ [] → AreCheckNotes request bytes notes
+  warned : (program : Program) (warnings : List Warning) → request.warn ≡ true
+      → SpellsText bytes (program_view program) → ArePlacesOf bytes (places_view program)
+      → AreWarnings program request.main.now warnings
+      → AreWarned request.program.now bytes warnings notes → AreCheckNotes request bytes notes
+
 -- the text of a check of what a request asks for: the program that the file's bytes spell keeps all rules and
 -- has a flat program, and the text is its canonical one, which spells that program too if it isn't longer
 -- than a text may be
-pub record IsChecked (gives : FileFacts) (request : CheckRequest) (text : List ℕ) : Type 0 where
+pub record IsChecked (gives : FileFacts) (request : CheckRequest) (text notes : List ℕ) : Type 0 where
   pub program : List ℕ
   pub tree : ProgramTree
   pub program_given : gives request.program.now (Some program)
@@ -50,6 +67,7 @@ pub record IsChecked (gives : FileFacts) (request : CheckRequest) (text : List �
   pub flat_is : IsFlatOf tree request.main.now flat
   pub text_is : text ≡ canonical tree
   pub again : IsReadBack text tree
+  pub notes_are : AreCheckNotes request program notes
 
 -- a plan, in the form that is asked for: the report on a line, the tables, which report the way that the
 -- plan's runs go, or the graph
@@ -58,11 +76,17 @@ IsPlanText Report plan text = text ≡ report_text plan ++ 10 ∷ []
 IsPlanText Table plan text = IsTableOf plan text
 IsPlanText Graph plan text = text ≡ graph_text plan
 
+-- what goes to the error stream beside a plan: where warnings are asked for, the sites at which nothing
+-- stands, a line each; else nothing
+abbrev pub plan_notes : PlanRequest → PlanView → List ℕ
+plan_notes request plan = if request.warn then idle_text request.place.now plan else []
+
 -- the text of the plan that a request asks for
-pub record IsPlanned (gives : FileFacts) (request : PlanRequest) (text : List ℕ) : Type 0 where
+pub record IsPlanned (gives : FileFacts) (request : PlanRequest) (text notes : List ℕ) : Type 0 where
   pub plan : PlanView
   pub asked_for : IsPlanFor gives request.program.now request.place.now request.main.now plan
   pub text_is : IsPlanText request.form plan text
+  pub notes_are : notes ≡ plan_notes request plan
 
 -- The world of a job after its turns, which keeps what the source says: its text, the notes of what the turns
 -- did, and its dump.
@@ -109,9 +133,9 @@ IsAlone notes dump = (notes ≡ []) × (dump ≡ None)
 
 -- the text of what a request asks for, the notes that go to the error stream, and the dump
 abbrev pub IsAnswer : FileFacts → Request → List ℕ → List ℕ → Option (List ℕ) → Type 0
-IsAnswer gives (Check request) text notes dump = IsChecked gives request text × IsAlone notes dump
+IsAnswer gives (Check request) text notes dump = IsChecked gives request text notes × (dump ≡ None)
 IsAnswer gives (Eval request) text notes dump = IsEvaluated gives request text dump × (notes ≡ [])
-IsAnswer gives (Plan request) text notes dump = IsPlanned gives request text × IsAlone notes dump
+IsAnswer gives (Plan request) text notes dump = IsPlanned gives request text notes × (dump ≡ None)
 IsAnswer gives (Replay request) text notes dump = IsReplayed gives request text notes dump
 IsAnswer gives (AsksRun request) text notes dump = IsRan gives request text dump × (notes ≡ [])
 IsAnswer gives (Explain request) text notes dump =
@@ -123,9 +147,16 @@ IsReplyTo gives request reply =
     IsAnswer gives request (string_bytes reply.text) (string_bytes reply.notes)
     (option_map string_bytes reply.dump)
 
--- the words ask for no turns to be reported
-abbrev pub AskForNoTrace : List (List ℕ) → Type 0
-AskForNoTrace words = (request : ReplayRequest) → IsAskedBy words (Replay request) → request.turns ≡ Nothing
+-- a request asks for nothing beside its answer: for no warnings, and for no turns
+abbrev pub IsQuiet : Request → Type 0
+IsQuiet (Check request) = request.warn ≡ false
+IsQuiet (Plan request) = request.warn ≡ false
+IsQuiet (Replay request) = request.turns ≡ Nothing
+IsQuiet _ = Unit {0}
+
+-- so do the words
+abbrev pub AskForNoNotes : List (List ℕ) → Type 0
+AskForNoNotes words = (request : Request) → IsAskedBy words request → IsQuiet request
 
 -- the text of what the words ask for
 pub record IsDone (gives : FileFacts) (words : List (List ℕ)) (text : List ℕ) : Type 0 where

@@ -10,10 +10,15 @@ use Rattle.lusdist_shell.specs.Sinks.{HasPut, HasLine, HasBeginning}
 use Rattle.lusdist_shell.specs.CommandLine.{lusdist}
 use Rattle.lusdist_shell.specs.Request.{IsAskedBy}
 use Rattle.lusdist_call.specs.declared.call_error.CallError.{CallError}
-use Rattle.lusdist_shell.specs.Dumps.{Written}
+use Rattle.lusdist_call.specs.declared.call_error.CallError.TheVariants.{CannotWrite, Mistaken}
+use Rattle.lusdist_call.specs.declared.mistake.Mistake.TheVariants.{Overwritten}
+use Rattle.lusdist_call.specs.declared.role.Role.{Role}
+use Rattle.lusdist_call.specs.Lines.{line_of}
+use Rattle.lusdist_shell.specs.Dumps.{Written, DumpFacts}
 use Rattle.lusdist_call.specs.Answers.{IsAnswer}
 use Rattle.lusdist_call.specs.Files.{dump_path, writes_of, IsUnfiled}
 use Rattle.lusdist_call.specs.Stopped.{IsRequestStopped, IsStopDump}
+use Rattle.lusdist_call.specs.Targets.{KeepsFiles, IsOver, IsShut}
 use Rattle.lusdist_call.specs.Statuses.{status_of}
 use Rattle.lusdist_call.specs.Reasons.{HasRefusal}
 use Rattle.lusdist_shell.specs.Files.{FileFacts}
@@ -84,19 +89,27 @@ abbrev pub IsHelp : ErrorKind → Type 0
 IsHelp kind = (kind ≡ DisplayHelp) ⊎ (kind ≡ DisplayVersion)
 
 -- A call with these words ends with this status, and these writes. Words in which nothing is wrong end as
--- what they ask for does; where help is asked for, it goes to the output, with 0; other words end with 2,
--- with nothing on the output. With 3 where memory ran out before the words were read, or help couldn't be
--- written. But for what is asked for nothing is written.
-pub data IsCallEnded {W V : Type 0} (gives : FileFacts) (words : List (List ℕ)) (status : ℕ)
-    (wrote : List Written) (streams : Streams W V) : Type 0 where
-  asked : (request : Request) → fault_of lusdist words ≡ [] → IsAskedBy words request
-      → IsEnded gives request status wrote streams → IsCallEnded gives words status wrote streams
+-- what they ask for does, where their dump is spelled as none of their files; with 2 where it would take
+-- the place of one of them; with 3 where it can't be written. Where help is asked for, it goes to the
+-- output, with 0; other words end with 2, with nothing on the output. With 3 where memory ran out before
+-- anything was read, or help couldn't be written. But for what is asked for nothing is written.
+pub data IsCallEnded {W V : Type 0} (gives : FileFacts) (dumps : DumpFacts) (words : List (List ℕ))
+    (status : ℕ) (wrote : List Written) (streams : Streams W V) : Type 0 where
+  asked : (request : Request) → fault_of lusdist words ≡ [] → IsAskedBy words request → KeepsFiles request
+      → IsEnded gives request status wrote streams → IsCallEnded gives dumps words status wrote streams
+  overwriting : (request : Request) (path : List ℕ) (role : Role) → fault_of lusdist words ≡ []
+      → IsAskedBy words request → IsOver dumps request path role → status ≡ 2 → wrote ≡ []
+      → HasError streams (line_of (Mistaken (Overwritten path role)))
+      → IsCallEnded gives dumps words status wrote streams
+  shut : (request : Request) (path : List ℕ) → fault_of lusdist words ≡ [] → IsAskedBy words request
+      → IsShut dumps request path → status ≡ 3 → wrote ≡ [] → HasError streams (line_of (CannotWrite path))
+      → IsCallEnded gives dumps words status wrote streams
   helped : (kind : ErrorKind) → IsAmong kind (fault_of lusdist words) → IsHelp kind → status ≡ 0 → wrote ≡ []
       → streams.out_after.failed ≡ false → streams.err_after ≡ streams.err
-      → IsCallEnded gives words status wrote streams
+      → IsCallEnded gives dumps words status wrote streams
   mistaken : (kind : ErrorKind) → IsAmong kind (fault_of lusdist words) → ¬ IsHelp kind → status ≡ 2
-      → wrote ≡ [] → streams.out_after ≡ streams.out → IsCallEnded gives words status wrote streams
+      → wrote ≡ [] → streams.out_after ≡ streams.out → IsCallEnded gives dumps words status wrote streams
   no_memory : status ≡ 3 → wrote ≡ [] → HasError streams (codes "R2 OutOfMemory")
-      → IsCallEnded gives words status wrote streams
+      → IsCallEnded gives dumps words status wrote streams
   no_help : (kind : ErrorKind) → IsAmong kind (fault_of lusdist words) → IsHelp kind → status ≡ 3 → wrote ≡ []
-      → HasNoOutput streams → IsCallEnded gives words status wrote streams
+      → HasNoOutput streams → IsCallEnded gives dumps words status wrote streams

@@ -14,4 +14,5 @@ pub mod Statuses
 pub mod Mistakes
 pub mod Lines
 pub mod Files
+pub mod Targets
 pub mod Headline

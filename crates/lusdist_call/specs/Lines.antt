@@ -1,5 +1,6 @@
 -- The line that reports why a call stops.
-use Rattle.std.specs.Prelude.{ℕ, List, ◌++◌, codes}
+use Rattle.std.specs.Prelude.{ℕ, ◌+◌, Bool, not, nat_eq, List, ◌++◌, take, drop, codes}
+use Rattle.std.specs.List.{prefix_len}
 use Rattle.std.specs.Fmt.{decimal}
 use Rattle.luflow.specs.Operators.{kind_text}
 use Rattle.lusyn.specs.Lines.{line_of as syntax_line}
@@ -32,3 +33,15 @@ line_of OutOfMemory = codes "R2 OutOfMemory"
 line_of LinkLost = codes "R3 LinkLost"
 line_of NoThread = codes "R4 NoThread"
 line_of (Mistaken mistake) = mistake_line mistake
+
+-- WORDS
+
+-- a byte that isn't the blank, which is 32
+abbrev pub is_inside_word : ℕ → Bool
+is_inside_word b = not (nat_eq b 32)
+
+-- the first two words of a line: the code and the name
+abbrev pub named : List ℕ → List ℕ
+named line =
+    let first = prefix_len is_inside_word line in
+    take (first + 1 + prefix_len is_inside_word (drop (first + 1) line)) line

@@ -4,6 +4,16 @@ use Rattle.std.specs.Fmt.{decimal}
 use Rattle.lusdist_shell.specs.declared.request.EvalRequest.{EvalRequest}
 use Rattle.lusdist_call.specs.declared.mistake.Mistake.{Mistake}
 use Rattle.lusdist_call.specs.declared.mistake.Mistake.TheVariants.{UnknownCode, NoChart, Backwards}
+use Rattle.lusdist_call.specs.declared.mistake.Mistake.TheVariants.{Overwritten}
+use Rattle.lusdist_call.specs.declared.role.Role.{Role}
+use Rattle.lusdist_call.specs.declared.role.Role.TheVariants.{Program, Place, Table, Schedule}
+
+-- the name of a file of a call in the help of the commands
+abbrev pub role_text : Role → List ℕ
+role_text Program = codes "PROGRAM"
+role_text Place = codes "PLACE"
+role_text Table = codes "TABLE"
+role_text Schedule = codes "SCHEDULE"
 
 -- the line, without the line feed that ends it
 abbrev pub line_of : Mistake → List ℕ
@@ -11,6 +21,8 @@ line_of (UnknownCode code) = codes "error: no page has the code " ++ code
 line_of NoChart = codes "error: --from and --to need --chronogram"
 line_of (Backwards from to) =
     codes "error: --from " ++ (decimal from ++ (codes " is after --to " ++ decimal to))
+line_of (Overwritten path role) =
+    codes "error: --vcd " ++ (path ++ (codes " is the " ++ (role_text role ++ codes " of this call")))
 
 -- instants are given for a chart alone
 abbrev pub chartless : Option ℕ → Option ℕ → Option Mistake

@@ -1,16 +1,26 @@
--- What is reported of a refusal behind its line, where the words ask for it: the place in the text that is
--- refused, what is wrong there, and how to mend it.
+-- What is told of a refusal: its line, and, where the words ask for it, the place in the text that is refused,
+-- what is wrong there, and how to mend it; or all faults.
 use Rattle.std.specs.Prelude.{◌≡◌, ◌⊎◌, ℕ, true, Bool, false, List, [], ◌∷◌, ◌++◌, codes, Option, Some}
-use Rattle.luexplain.specs.Place.{place}
+use Rattle.std.specs.Prelude.{length, nat_eq, if◌then◌else◌, string_bytes}
+use Rattle.std.specs.Fmt.{decimal}
+use Rattle.lutree.specs.declared.program.Program.{Program}
+use Rattle.lutree.specs.Places.{places_view}
+use Rattle.lutree.specs.Tree.{program_view}
+use Rattle.lustat_rules.specs.declared.error.StatError.{StatError}
+use Rattle.lustat.specs.AllFaults.{AreOfFirstStage}
+use Rattle.luexplain.specs.declared.said.Explanation.{Explanation}
+use Rattle.luexplain.specs.Place.{line_behind, place}
 use Rattle.luexplain.specs.Explanations.{place_of_rule, whole}
 use Rattle.luexplain.specs.Syntax.{place_of_syntax}
 use Rattle.luexplain.specs.Texts.{place_of_schedule}
 use Rattle.lusyn.specs.declared.error.SynError.TheVariants as texts
+use Rattle.lusyn.specs.Places.{ArePlacesOf}
+use Rattle.lusyn.specs.Texts.{SpellsText}
 use Rattle.lusdist_shell.specs.declared.request.Request.{Request}
 use Rattle.lusdist_shell.specs.declared.request.Request.TheVariants.{Check, Eval, Plan, Replay, Run, Explain}
 use Rattle.lusdist_shell.specs.declared.sink.Sink.{Sink}
 use Rattle.lusdist_shell.specs.Sinks.{HasPut}
-use Rattle.lusdist_call.specs.Lines.{line_of}
+use Rattle.lusdist_call.specs.Lines.{line_of, named}
 use Rattle.lusdist_call.specs.declared.call_error.CallError.{CallError}
 use Rattle.lusdist_call.specs.declared.call_error.CallError.TheVariants.{NotAscii, Syntax, Rules, Place}
 use Rattle.lusdist_call.specs.declared.call_error.CallError.TheVariants.{Table, Schedule}
@@ -25,7 +35,30 @@ asks_why (Replay request) = request.explain
 asks_why (Run request) = request.explain
 asks_why (Explain request) = false
 
+-- whether a request asks for a refusal in one line, with its place
+abbrev pub asks_short : Request → Bool
+asks_short (Check request) = request.short
+asks_short (Eval request) = request.short
+asks_short (Plan request) = request.short
+asks_short (Replay request) = request.short
+asks_short (Run request) = request.short
+asks_short (Explain request) = false
+
+-- whether a request asks for all faults, where a rule is broken
+abbrev pub asks_all : Request → CallError → Bool
+asks_all (Check request) (Rules e) = request.all
+asks_all _ _ = false
+
 -- FILES
+
+-- the name of the main node, empty where a request names none
+abbrev pub main_name : Request → List ℕ
+main_name (Check request) = request.main.now
+main_name (Eval request) = request.main.now
+main_name (Plan request) = request.main.now
+main_name (Replay request) = request.main.now
+main_name (Run request) = request.main.now
+main_name (Explain request) = []
 
 -- the paths that a request names, each empty where it names none
 abbrev pub program_path : Request → List ℕ
@@ -70,31 +103,75 @@ StandsAt path text (Rules e) at = at ≡ place_of_rule path text e
 StandsAt path text (Schedule e) at = at ≡ place_of_schedule path text e
 StandsAt path text _ at = ((byte : ℕ) × (at ≡ place path text byte)) ⊎ (at ≡ whole path)
 
--- a place, a line of what is wrong, and a line of how to mend it
-abbrev pub reason_text : List ℕ → List ℕ → List ℕ → List ℕ
-reason_text at what mend = at ++ what ++ codes "\n" ++ mend ++ codes "\n"
-
 -- The reason of a stop, by what the file of the path gave.
-pub record IsReason (gives : FileFacts) (path : List ℕ) (stop : CallError) (reported : List ℕ) : Type 0 where
+pub record IsReason (gives : FileFacts) (path : List ℕ) (stop : CallError) (reason : Explanation) : Type 0 where
   pub text : List ℕ
   pub given : gives path (Some text)
-  pub at : List ℕ
-  pub stands : StandsAt path text stop at
-  pub what : List ℕ
-  pub mend : List ℕ
-  pub is : reported ≡ reason_text at what mend
+  pub stands : StandsAt path text stop (string_bytes reason.place)
 
--- What is reported behind the line of a stop: where that is asked for, its reason; or nothing, as where no
--- text is to blame, where its file can't be read again, or where memory runs out.
-pub data IsReportedBehind (gives : FileFacts) (request : Request) (stop : CallError)
-    (reported : List ℕ) : Type 0 where
-  nothing : reported ≡ [] → IsReportedBehind gives request stop reported
-  reason : asks_why request ≡ true → IsReason gives (blamed_path request stop) stop reported
-      → IsReportedBehind gives request stop reported
+-- ONE REFUSAL
 
--- the error stream has the line of a stop more, and behind it what is reported of the stop
+-- its line, and behind it a place, a line of what is wrong, and a line of how to mend it
+abbrev pub explained_text : CallError → Explanation → List ℕ
+explained_text stop reason =
+    line_of stop ++ codes "\n" ++ string_bytes reason.place ++ string_bytes reason.what ++ codes "\n"
+    ++ string_bytes reason.mend ++ codes "\n"
+
+-- one line as compilers report: `PATH:LINE:COLUMN: CODE NAME: what is wrong`
+abbrev pub short_text : CallError → Explanation → List ℕ
+short_text stop reason =
+    line_behind (string_bytes reason.place) ++ codes ": " ++ named (line_of stop) ++ codes ": "
+    ++ string_bytes reason.what ++ codes "\n"
+
+-- A refusal as it is told: in one line with its place where that is asked for; else with its reason behind its
+-- line, where that is asked for. Or its line alone, as where nothing is asked for, no text is to blame, its
+-- file can't be read again, or memory runs out.
+pub data IsTold (gives : FileFacts) (request : Request) (stop : CallError) (told : List ℕ) : Type 0 where
+  alone : told ≡ line_of stop ++ codes "\n" → IsTold gives request stop told
+  explained : (reason : Explanation) → asks_why request ≡ true → asks_short request ≡ false
+      → IsReason gives (blamed_path request stop) stop reason → told ≡ explained_text stop reason
+      → IsTold gives request stop told
+  short : (reason : Explanation) → asks_short request ≡ true
+      → IsReason gives (blamed_path request stop) stop reason → told ≡ short_text stop reason
+      → IsTold gives request stop told
+
+-- ALL FAULTS
+
+-- all faults of the first stage that has any, of the program that the file of the path spells
+pub record AreFaultsAt (gives : FileFacts) (path main : List ℕ) (faults : List StatError) : Type 0 where
+  pub bytes : List ℕ
+  pub given : gives path (Some bytes)
+  pub program : Program
+  pub spelled : SpellsText bytes (program_view program)
+  pub placed : ArePlacesOf bytes (places_view program)
+  pub are : AreOfFirstStage program main faults
+
+-- faults as they are told, one behind the other
+pub data AreTold (gives : FileFacts) (request : Request) : List StatError → List ℕ → Type 0 where
+  none : AreTold gives request [] []
+  more : (before : List StatError) (fault : StatError) (told one : List ℕ) → AreTold gives request before told
+      → IsTold gives request (Rules fault) one
+      → AreTold gives request (before ++ fault ∷ []) (told ++ one)
+
+-- how many there are
+abbrev pub count_text : ℕ → List ℕ
+count_text n = decimal n ++ (if nat_eq n 1 then codes " fault\n" else codes " faults\n")
+
+-- What is told of a stop: of a rule that is broken, where a check is asked for all faults, each of them and how
+-- many there are, or, where memory runs out for that, the first and that it did; else the stop alone.
+pub data IsRefusalText (gives : FileFacts) (request : Request) (stop : CallError)
+    (text : List ℕ) : Type 0 where
+  one : asks_all request stop ≡ false → IsTold gives request stop text → IsRefusalText gives request stop text
+  each : (faults : List StatError) (told : List ℕ) → asks_all request stop ≡ true
+      → AreFaultsAt gives (program_path request) (main_name request) faults
+      → AreTold gives request faults told → text ≡ told ++ count_text (length faults)
+      → IsRefusalText gives request stop text
+  cut : asks_all request stop ≡ true → text ≡ line_of stop ++ codes "\nR2 OutOfMemory\n"
+      → IsRefusalText gives request stop text
+
+-- the error stream has what is told of a stop more
 pub record HasRefusal {V : Type 0} (gives : FileFacts) (request : Request) (stop : CallError)
     (held : V → Option (List ℕ)) (old new : Sink V) : Type 0 where
-  pub reported : List ℕ
-  pub behind : IsReportedBehind gives request stop reported
-  pub put : HasPut held old new (line_of stop ++ 10 ∷ reported)
+  pub text : List ℕ
+  pub told : IsRefusalText gives request stop text
+  pub put : HasPut held old new text

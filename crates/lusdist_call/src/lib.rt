@@ -15,12 +15,13 @@
 //!   prints anything.
 //! - `specs/RunReportTexts.antt`: what a world reports, and the text of it.
 //! - `specs/Waved.antt`: the dumps of runs and replays.
+//! - `specs/Targets.antt`: where the dump of a call may go.
 //! - `specs/Reasons.antt`: what goes behind the line of a refusal. `specs/Left.antt`: how a call ends, and what it leaves.
 //!
 //! # How a call ends, and its files
 //!
 //! - [`CallError`]: why a call stops, and with which status; [`Mistake`]: what is wrong with words that the command line
-//!   takes.
+//!   takes. [`Role`]: what a file is to a call.
 //! - [`Reply`]: what a call answers, and [`put_reply`], which writes it; [`Refusal`]: why it stops, and the dump that it leaves.
 //! - [`read`] and [`file_dump`]: a file that is read, and one into which a dump is written.
 #![tactic(auto)]
@@ -30,9 +31,11 @@ mod files;
 mod mistake;
 mod refusal;
 mod reply;
+mod role;
 
 pub use call_error::CallError;
 pub use files::{file_dump, read};
 pub use mistake::{Mistake, mistake_in};
 pub use refusal::Refusal;
 pub use reply::{Reply, put_reply};
+pub use role::Role;

@@ -3,6 +3,7 @@
 ghost use Rattle.std.specs.Prelude.{◌≡◌};
 ghost use Rattle.lusdist_call.specs.Mistakes.{chartless, unordered, backwards, mistake_in};
 
+use crate::role::Role;
 use lubase::Name;
 use lusdist_shell::EvalRequest;
 use std::fmt;
@@ -17,6 +18,8 @@ pub enum Mistake {
     NoChart,
     /// The first instant of a chart is after its last. Both are counted from 0.
     Backwards { from: u32, to: u32 },
+    /// A dump would be written over a file of the call: its path, and what that file is to the call.
+    Overwritten { path: Name, role: Role },
 }
 
 impl fmt::Display for Mistake {
@@ -34,6 +37,11 @@ impl fmt::Display for Mistake {
             ),
             Mistake::NoChart => f.write_str("error: --from and --to need --chronogram"),
             Mistake::Backwards { from, to } => write!(f, "error: --from {from} is after --to {to}"),
+            Mistake::Overwritten { path, role } => write!(
+                f,
+                "error: --vcd {} is the {role} of this call",
+                path.as_str()
+            ),
         }
     }
 }

@@ -22,13 +22,17 @@ main_rule = record (new_rule (codes "main")) {
 abbrev pub flag_rule : Text → Rule
 flag_rule name = record (new_rule name) { long = Some name; action = Some SetTrue }
 
--- a command that checks a program: `[--main NAME] [--explain]`
+-- a command that checks a program: `[--main NAME] [--explain] [--short]`
 abbrev pub judging : Text → App
-judging name = with_rule (with_rule (new_app name) main_rule) (flag_rule (codes "explain"))
+judging name =
+    with_rule (with_rule (with_rule (new_app name) main_rule) (flag_rule (codes "explain")))
+    (flag_rule (codes "short"))
 
--- `check PROGRAM [--main NAME] [--explain]`
+-- `check PROGRAM [--main NAME] [--explain] [--short] [--all] [--warn]`
 abbrev pub check : App
-check = with_rule (judging (codes "check")) (path_rule (codes "PROGRAM"))
+check =
+    with_rule (with_rule (with_rule (judging (codes "check")) (flag_rule (codes "all")))
+    (flag_rule (codes "warn"))) (path_rule (codes "PROGRAM"))
 
 -- the last instant that a table may have
 abbrev pub last_instant : ℕ
@@ -46,21 +50,21 @@ instant_rule name = record (new_rule name) {
 abbrev pub vcd_rule : Rule
 vcd_rule = record (new_rule (codes "vcd")) { long = Some (codes "vcd"); value_names = 1 }
 
--- `eval PROGRAM TABLE [--main NAME] [--explain] [--all] [--chronogram] [--from T] [--to T] [--vcd FILE]`
+-- `eval PROGRAM TABLE [--main NAME] [--explain] [--short] [--all] [--chronogram] [--from T] [--to T] [--vcd FILE]`
 abbrev pub eval : App
 eval =
     with_rule (with_rule (with_rule (with_rule (with_rule (with_rule (with_rule (judging (codes "eval"))
     (flag_rule (codes "all"))) (flag_rule (codes "chronogram"))) (instant_rule (codes "from")))
     (instant_rule (codes "to"))) vcd_rule) (path_rule (codes "PROGRAM"))) (path_rule (codes "TABLE"))
 
--- `plan PROGRAM PLACE [--main NAME] [--explain] [--text] [--dot]`
+-- `plan PROGRAM PLACE [--main NAME] [--explain] [--short] [--warn] [--text] [--dot]`
 abbrev pub plan : App
 plan =
-    with_rule (with_rule (with_rule (with_rule (judging (codes "plan"))
+    with_rule (with_rule (with_rule (with_rule (with_rule (judging (codes "plan")) (flag_rule (codes "warn")))
     (flag_rule (codes "text"))) (flag_rule (codes "dot"))) (path_rule (codes "PROGRAM")))
     (path_rule (codes "PLACE"))
 
--- `replay PROGRAM PLACE TABLE SCHEDULE [--main NAME] [--explain] [--finish] [--trace] [--chart] [--vcd FILE]`
+-- `replay PROGRAM PLACE TABLE SCHEDULE [--main NAME] [--explain] [--short] [--finish] [--trace] [--chart] [--vcd FILE]`
 abbrev pub replay : App
 replay =
     with_rule (with_rule
@@ -81,7 +85,7 @@ workers_rule = record (new_rule (codes "workers")) {
   parser = Some (Unsigned fewest_workers most_workers);
 }
 
--- `run PROGRAM PLACE TABLE [--main NAME] [--explain] [--workers W] [--progress] [--items] [--vcd FILE]`
+-- `run PROGRAM PLACE TABLE [--main NAME] [--explain] [--short] [--workers W] [--progress] [--items] [--vcd FILE]`
 abbrev pub run : App
 run =
     with_rule (with_rule

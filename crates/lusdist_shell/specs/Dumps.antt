@@ -18,3 +18,8 @@ abbrev pub HasFailed : List Written → List Written → List ℕ → List ℕ �
 HasFailed old new path bytes CannotWrite =
     new ≡ old ++ record { path = path; bytes = bytes; whole = false } ∷ []
 HasFailed old new path bytes OutOfMemory = new ≡ old
+
+-- what is known of paths: that two of them may name one file; that no file can be written at one
+pub record DumpFacts : Type 1 where
+  pub same : List ℕ → List ℕ → Type 0
+  pub shut : List ℕ → Type 0

@@ -101,7 +101,9 @@ fn workers<'a>(alloc: Global) -> Arg<'a>
         .long("workers")
         .value_name("W")
         .value_parser(ValueParser::Unsigned(FEWEST_WORKERS, MOST_WORKERS))
-        .help("How many threads serve the sites, 1 to 16; without it each site has its own")
+        .help(
+            "How many threads serve the sites, 1 to 16; without it each site has its own, or small sites that feed each other share one",
+        )
 }
 
 /// The code of a page, which may be left out.

@@ -39,9 +39,8 @@ pub const E21: &str = "E21 NotAClock
 
 What a declaration's `when`, a `when` in an expression or a `merge` names is a
 `bool`, or, where names of an enumeration stand with it, of that enumeration;
-and whoever goes from a variable to its clock, and on to the clock of that,
-comes to the base clock. BYTE is the declared name, or where the equation
-begins.
+and the way from a variable to its clock, and on to the clock of that, ends at
+the base clock. BYTE is the declared name, or where the equation begins.
 
 A file `p.lus`:
 
@@ -82,7 +81,7 @@ A file `p.lus`:
     E22 ClockedParameter at 19
 
 Take the input at every instant, and sample it inside. (A called node can be
-given samples: it then lives on their clock as a whole.)
+given samples: it then runs on their clock as a whole.)
 
     node main(c: bool; x: int) returns (y: int);
       y = merge c (true -> x when c) (false -> 0);

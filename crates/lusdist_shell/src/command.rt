@@ -60,6 +60,24 @@ const EXPLAIN: Argument<'static> = Argument::Flag {
     help: "Where a text is refused, shows its line and says what is wrong and how to mend it",
 };
 
+/// Whether a refusal is reported in one line.
+const SHORT: Argument<'static> = Argument::Flag {
+    name: "short",
+    help: "Where a text is refused, says in one line where and what is wrong, as compilers do, also beside --explain",
+};
+
+/// Whether a check reports all faults.
+const EACH: Argument<'static> = Argument::Flag {
+    name: "all",
+    help: "Tells all faults of the first stage that has any, a line each, and how many there are",
+};
+
+/// Whether warnings are reported.
+const WARN: Argument<'static> = Argument::Flag {
+    name: "warn",
+    help: "Tells on the error stream what is allowed and may be a mistake, a line each",
+};
+
 /// Whether an evaluation reports all main variables.
 const ALL: Argument<'static> = Argument::Flag {
     name: "all",
@@ -141,7 +159,7 @@ const TASKS: [Task<'static>; 6] = [
     Task {
         name: "check",
         about: "Judges a program by all rules and prints its canonical text",
-        arguments: &[Argument::Main, EXPLAIN, PROGRAM],
+        arguments: &[Argument::Main, EXPLAIN, SHORT, EACH, WARN, PROGRAM],
     },
     Task {
         name: "eval",
@@ -149,6 +167,7 @@ const TASKS: [Task<'static>; 6] = [
         arguments: &[
             Argument::Main,
             EXPLAIN,
+            SHORT,
             ALL,
             CHRONOGRAM,
             FROM,
@@ -161,7 +180,16 @@ const TASKS: [Task<'static>; 6] = [
     Task {
         name: "plan",
         about: "Plans a program at several sites and prints where each variable stands, and all links",
-        arguments: &[Argument::Main, EXPLAIN, TEXT, DOT, PROGRAM, PLACE],
+        arguments: &[
+            Argument::Main,
+            EXPLAIN,
+            SHORT,
+            WARN,
+            TEXT,
+            DOT,
+            PROGRAM,
+            PLACE,
+        ],
     },
     Task {
         name: "replay",
@@ -169,6 +197,7 @@ const TASKS: [Task<'static>; 6] = [
         arguments: &[
             Argument::Main,
             EXPLAIN,
+            SHORT,
             FINISH,
             TRACE,
             CHART,
@@ -185,6 +214,7 @@ const TASKS: [Task<'static>; 6] = [
         arguments: &[
             Argument::Main,
             EXPLAIN,
+            SHORT,
             Argument::Workers,
             PROGRESS,
             ITEMS,

@@ -41,6 +41,7 @@ mod schedules;
 mod sink;
 mod starts;
 mod tables;
+mod targets;
 mod text;
 mod texts;
 mod words;

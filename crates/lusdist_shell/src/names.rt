@@ -8,9 +8,9 @@ pub const E10: &str = "E10 DuplicateName
 
 No two nodes have one name, and no two variables of a node, be they inputs,
 outputs or locals. No two types have one name. No two names of enumerations are
-equal, not in two types either, and no variable is called like one of them.
-BYTE is the later one of the two names; of a variable and a name of an
-enumeration it is the variable.
+equal, not in two types either, and no variable has the name of one. BYTE is
+the later one of the two names; of a variable and a name of an enumeration it
+is the variable.
 
 A file `p.lus`:
 
@@ -41,7 +41,7 @@ Each name in an equation, and each clock behind a declaration's `when`, is an
 input, an output or a local of the same node; where a value stands, or a
 pattern of a clock or a merge, it may be a name of an enumeration. A declared
 type is `int`, `bool` or a type of the file. BYTE is where the equation begins,
-or the declared name whose clock it is.
+or the declared name whose type or clock it is.
 
 A file `p.lus`:
 
@@ -53,8 +53,8 @@ A file `p.lus`:
     $ lusdist check p.lus
     E11 UnknownName at 51
 
-Spell the name as it is declared, or declare it. What another node knows has to
-come as an argument:
+Spell the name as it is declared, or declare it. A variable of another node has
+to come as an argument:
 
       alarm = level > 80;
 
@@ -168,7 +168,7 @@ A file `p.lus`:
     $ lusdist check p.lus
     E15 Undefined at 43
 
-Write the equation, or take back the declaration. What comes from outside is an
+Write the equation, or remove the declaration. What comes from outside is an
 input:
 
     node main(x: int) returns (rise: int); var last: int; let rise = x - (x -> last); last = pre x; tel
@@ -186,8 +186,8 @@ input:
 pub const E16: &str = "E16 DefinedTwice
 
 A variable has one equation, which names it once on its left, and an input has
-none. BYTE is where the later equation begins. An equation isn't a step that is
-done: it says what its variable is at every instant.
+none. BYTE is where the later equation begins. An equation is no assignment: it
+says what its variable is at every instant.
 
 A file `p.lus`:
 
@@ -196,7 +196,7 @@ A file `p.lus`:
     $ lusdist check p.lus
     E16 DefinedTwice at 65
 
-Say it all in one equation:
+Write one equation:
 
     node main(reset: bool) returns (n: int); let n = if reset then 0 else 0 -> pre n + 1; tel
 
@@ -210,8 +210,8 @@ Say it all in one equation:
 /// The page of `E17 RecursiveNode`.
 pub const E17: &str = "E17 RecursiveNode
 
-No node calls itself, nor through others. BYTE is the name of a node that does,
-where it is declared; of several the first in the text.
+No node calls itself, directly or through others. BYTE is the name of a node
+that does, where it is declared; of several the first in the text.
 
 A file `p.lus`:
 
@@ -221,8 +221,8 @@ A file `p.lus`:
     $ lusdist check p.lus
     E17 RecursiveNode at 5
 
-A program goes on from instant to instant, and there repeats what it does: keep
-the sum so far with `pre`.
+A program repeats what it does from instant to instant: keep the sum so far
+with `pre`.
 
     node sum(n: int) returns (s: int); let s = n + (0 -> pre s); tel
 

@@ -37,7 +37,8 @@ and no others; `sites` has to be there. `version` and `capacity` are whole
 numbers, `sites` is an array of names in quotes, and `default` and each entry
 of `place` is a name, or in version 2 also an array of one name or more. The
 name of a site has letters, digits and `_`, no digit first, and at most 32
-bytes.
+bytes. What stands below the line `[place]` belongs to that table: the other
+keys stand above it.
 
 A file `p.lus`:
 

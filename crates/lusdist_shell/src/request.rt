@@ -18,6 +18,12 @@ pub struct CheckRequest<'a> {
     pub main: &'a str,
     /// Whether a refusal is explained.
     pub explain: bool,
+    /// Whether a refusal is reported in one line, with its place.
+    pub short: bool,
+    /// Whether all faults of the first stage that has any are reported, and not the first alone.
+    pub all: bool,
+    /// Whether warnings are reported on the error stream.
+    pub warn: bool,
     /// The path of the program.
     pub program: &'a str,
 }
@@ -29,6 +35,8 @@ pub struct EvalRequest<'a> {
     pub main: &'a str,
     /// Whether a refusal is explained.
     pub explain: bool,
+    /// Whether a refusal is reported in one line, with its place.
+    pub short: bool,
     /// The path of the program.
     pub program: &'a str,
     /// The path of the input table.
@@ -63,6 +71,10 @@ pub struct PlanRequest<'a> {
     pub main: &'a str,
     /// Whether a refusal is explained.
     pub explain: bool,
+    /// Whether a refusal is reported in one line, with its place.
+    pub short: bool,
+    /// Whether warnings are reported on the error stream.
+    pub warn: bool,
     /// The path of the program.
     pub program: &'a str,
     /// The path of the placement.
@@ -89,6 +101,8 @@ pub struct ReplayRequest<'a> {
     pub main: &'a str,
     /// Whether a refusal is explained.
     pub explain: bool,
+    /// Whether a refusal is reported in one line, with its place.
+    pub short: bool,
     /// The path of the program.
     pub program: &'a str,
     /// The path of the placement.
@@ -112,13 +126,16 @@ pub struct RunRequest<'a> {
     pub main: &'a str,
     /// Whether a refusal is explained.
     pub explain: bool,
+    /// Whether a refusal is reported in one line, with its place.
+    pub short: bool,
     /// The path of the program.
     pub program: &'a str,
     /// The path of the placement.
     pub place: &'a str,
     /// The path of the input table.
     pub table: &'a str,
-    /// How many threads serve the sites, 1 to 16; where there is none, each site has a thread of its own.
+    /// How many threads serve the sites, 1 to 16; where there is none, each site has a thread of its own, or small sites that feed each
+    /// other share one.
     pub workers: Option<u8>,
     /// Whether it is reported on the error stream how far the sites have come.
     pub progress: bool,
@@ -169,6 +186,9 @@ fn check_in<'a>(matches: &ArgMatches<'a>) -> CheckRequest<'a>
     CheckRequest {
         main: text(matches, "main"),
         explain: is_given(matches, "explain"),
+        short: is_given(matches, "short"),
+        all: is_given(matches, "all"),
+        warn: is_given(matches, "warn"),
         program: text(matches, "PROGRAM"),
     }
 }
@@ -209,6 +229,7 @@ fn eval_in<'a>(matches: &ArgMatches<'a>) -> EvalRequest<'a>
     EvalRequest {
         main: text(matches, "main"),
         explain: is_given(matches, "explain"),
+        short: is_given(matches, "short"),
         program: text(matches, "PROGRAM"),
         table: text(matches, "TABLE"),
         all: is_given(matches, "all"),
@@ -239,6 +260,8 @@ fn plan_in<'a>(matches: &ArgMatches<'a>) -> PlanRequest<'a>
     PlanRequest {
         main: text(matches, "main"),
         explain: is_given(matches, "explain"),
+        short: is_given(matches, "short"),
+        warn: is_given(matches, "warn"),
         program: text(matches, "PROGRAM"),
         place: text(matches, "PLACE"),
         form: form_in(matches),
@@ -265,6 +288,7 @@ fn replay_in<'a>(matches: &ArgMatches<'a>) -> ReplayRequest<'a>
     ReplayRequest {
         main: text(matches, "main"),
         explain: is_given(matches, "explain"),
+        short: is_given(matches, "short"),
         program: text(matches, "PROGRAM"),
         place: text(matches, "PLACE"),
         table: text(matches, "TABLE"),
@@ -306,6 +330,7 @@ fn run_in<'a>(matches: &ArgMatches<'a>) -> RunRequest<'a>
     RunRequest {
         main: text(matches, "main"),
         explain: is_given(matches, "explain"),
+        short: is_given(matches, "short"),
         program: text(matches, "PROGRAM"),
         place: text(matches, "PLACE"),
         table: text(matches, "TABLE"),

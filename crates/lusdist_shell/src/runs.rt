@@ -125,9 +125,9 @@ nothing of the texts, and none is to be mended: call again, or take `replay
 pub const R4: &str = "R4 NoThread
 
 The system refused to start a thread of a run. It says nothing of the texts.
-`run` starts a thread for each site, and with `--workers W` at most W: call it
-with a small number, close other programs, or take `replay --finish`, which
-starts none and tells the same outputs.
+`run` starts up to a thread for each site, and with `--workers W` at most W:
+call it with a small number, close other programs, or take `replay --finish`,
+which starts none and tells the same outputs.
 ";
 
 /// The page of a code, where it is one of these.

@@ -86,8 +86,8 @@ local that begins with true:
 /// The page of `E40 Cycle`.
 pub const E40: &str = "E40 Cycle
 
-A variable's value at an instant mustn't depend on itself at that instant, also
-not by way of others, of nodes that are called, or of clocks. VARIABLE is the
+A variable's value at an instant mustn't depend on itself at that instant, nor
+by way of others, of nodes that are called, or of clocks. VARIABLE is the
 variable of the main node in whose equation such a value stands; of several it
 is that of the least flow of the list (LANGUAGE
 (docs/LANGUAGE.md#flat-programs)), and of an equation of several variables the

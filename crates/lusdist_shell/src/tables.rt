@@ -7,14 +7,21 @@ ghost use Rattle.lusdist_shell.specs.Pages.{text_among, tables};
 pub const T01: &str = "T01 BadHeader
 
 The first line is the header: the names of the main node's inputs, in order of
-declaration, with `,` between them and no blanks, and a line feed at its end. A
-carriage return before the line feed isn't part of a line's end. Of a main node
-without inputs the header is an empty line. A table that isn't UTF-8 is refused
-so too, before all else.
+declaration, with `,` between them and no blanks, and a line feed at its end.
+Of a main node without inputs the header is an empty line. A table that isn't
+UTF-8 is refused so too, before all else.
 
 A file `p.lus`:
 
     node main(x: int; c: bool) returns (y: int); let y = if c then x else 0; tel
+
+Spreadsheets often write what no table has. These commands leave it out:
+
+    what                                      command
+    a carriage return before each line feed   `tr -d '\\r' < old.csv > new.csv`
+    a byte order mark at the beginning        `tail -c +4 old.csv > new.csv`
+    a `;` as the separator                    `tr ';' ',' < old.csv > new.csv`
+    quotes                                    `tr -d '\"' < old.csv > new.csv`
 
 A file `t.csv`:
 
@@ -39,7 +46,8 @@ mended file `t.csv` is
 pub const T02: &str = "T02 BadRow
 
 A line has as many fields as there are inputs, and the last line ends in a line
-feed too. N is the number of the line; the header is line 1.
+feed too. An empty line is a line, at the end too. N is the number of the line;
+the header is line 1.
 
 A file `p.lus`:
 
@@ -73,7 +81,8 @@ pub const T03: &str = "T03 BadValue
 An `int` is `0`, or digits that don't begin with 0, with or without `-` before
 them, from -9223372036854775808 to 9223372036854775807; a `bool` is `true` or
 `false`; a field of an enumeration is one of its names. No blanks, no `+`, no
-quotes. N is the number of the line; the header is line 1.
+quotes, no point and no exponent; `1` is no `bool`. N is the number of the
+line; the header is line 1.
 
 A file `p.lus`:
 
@@ -117,7 +126,7 @@ instant too many:
     $ lusdist eval p.lus long.csv
     T04 TooLong
 
-Try the program at a part of the table, such as the file `t.csv` that `head -n
+Try the program on a part of the table, such as the file `t.csv` that `head -n
 4 long.csv > t.csv` makes:
 
     x,c

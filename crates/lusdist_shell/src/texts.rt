@@ -115,7 +115,8 @@ pub const E03: &str = "E03 NotAscii
 
 A program has bytes from 0 to 127 alone, in comments too. The line tells no
 byte; `LC_ALL=C grep -nP '[\\x80-\\xff]' p.lus` prints the lines that have
-others. A program that isn't UTF-8 is refused so too.
+others. A program that isn't UTF-8 is refused so too. A byte order mark at its
+beginning is three such bytes; `tail -c +4 p.lus > new.lus` cuts it off.
 
 A file `p.lus`:
 
@@ -127,7 +128,7 @@ A file `p.lus`:
     $ lusdist check p.lus
     E03 NotAscii
 
-Write it in other letters:
+Write it in ASCII letters:
 
       hot = water > 90; -- above 90 degrees
 

@@ -38,9 +38,10 @@ text is at fault, and none is to be mended: make room, or write to another
 place. On Linux `lusdist check pump.lus > /dev/full` shows the line.
 
 With a PATH behind it, it is the file of a dump (`--vcd`) that can't be
-written, since its folder isn't there, for instance: the file is as it was, or
-has a beginning of the dump. Nothing went to the output, and a fault that the
-evaluation would tell isn't told.
+written, since its folder isn't there, for instance: a file is as it was, and a
+device or a pipe has a beginning of the dump. Nothing went to the output, and a
+fault of the evaluation isn't told. What can be seen of this beforehand is told
+before a file is read.
 ";
 
 /// The page of a code, where it is one of these.

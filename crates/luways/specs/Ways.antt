@@ -1,4 +1,4 @@
--- In which way a run goes: by rows, or item by item, and why.
+-- In which way a run goes: by rows, or instant by instant, and why.
 use Rattle.std.specs.Prelude.{◌≡◌, ◌≢◌, ◌<◌, ◌↔◌, ℕ, Bool, true, false, List, [], ◌++◌, length, Option, Some}
 use Rattle.std.specs.Prelude.{None, Contains}
 use Rattle.std.specs.List.Sorted.{IsStrictlyIncreasing}

@@ -8,4 +8,4 @@ use Rattle.lusdist_answers.proofs.running.outputs_by_rows.Goals as goal
 pub returns : goal.returns
 returns g c =
     let job = c.args.job.now in
-    rows_answer_is (λ (o : Option (List OutputColumn)). IfSome o (AreOutputsOf job)) job c.run_rows.result (c.run_rows.ensures.outputs job (rw c.in-Some.is at c.in_ok-stations.ensures.of)) c.run_rows.ensures.none
+    rows_answer_is (λ (o : Option (List OutputColumn)). IfSome o (AreOutputsOf job)) job c.run_rows.result (c.run_rows.ensures.outputs job (rw c.in-Some.is at c.in_ok-found.ensures.of)) c.run_rows.ensures.none

@@ -1,0 +1,12 @@
+pub mod Tries
+pub mod Ends
+pub mod Steps
+pub mod Rows
+pub mod Turns
+pub mod Lists
+pub mod Starts
+pub mod Spans
+pub mod Works
+pub mod Quicks
+pub mod Stations
+pub mod Insides

@@ -1,0 +1,55 @@
+//! A site that goes through its flows once an instant.
+
+ghost use Rattle.std.specs.Prelude.{◌≡◌, ◌<◌, length, slice_set};
+ghost use Rattle.lueval_lines.specs.Cells.{held};
+
+use crate::code::ListCode;
+use crate::ends::{Outlet, Source};
+use lueval_lines::{Cell, status};
+use luflow::{Datum, Status};
+use luplace::{Job, SiteInputs};
+use std::snapshot::Snapshot;
+
+/// A site in the middle of an instant.
+#[derive(Drop)]
+pub struct ListSite {
+    pub job: Snapshot<Job>,
+    pub site: u8,
+    pub inputs: SiteInputs,
+    pub code: ListCode,
+    /// What each flow shows at this instant, by number; of those before the one at hand.
+    pub shown: Vec<Cell>,
+    /// The last values before this instant of those that are kept; absent before the first.
+    pub lasts: Vec<Cell>,
+    pub sources: Vec<Source>,
+    pub outlets: Vec<Outlet>,
+    /// The numbers of the flows that the site reports, and the statuses of each so far.
+    pub noted: Vec<usize>,
+    pub logs: Vec<Vec<Status>>,
+    /// The sending ends in order of their flows.
+    pub queue: Vec<usize>,
+    /// The instant, the number of the flow at hand, and how many sending ends of the queue have put their message.
+    pub t: u32,
+    pub at: usize,
+    pub out: usize,
+}
+
+/// Flow k shows this now.
+#[inline(always)]
+pub fn show(shown: &mut Vec<Cell>, k: usize, cell: Cell)
+    requires { k < length shown.old.items }
+    ensures { shown.new.items ≡ slice_set shown.old.items k cell }
+{
+    shown[k] = cell;
+}
+
+/// The datum that a cell holds; none where it is absent.
+#[inline(always)]
+pub fn datum_of(cell: Cell) -> Option<Datum>
+    ensures { result ≡ held cell }
+{
+    match status(cell) {
+        Status::Present(datum) => Some(datum),
+        Status::Absent => None,
+    }
+}

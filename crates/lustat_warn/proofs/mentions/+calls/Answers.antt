@@ -1,0 +1,9 @@
+use Rattle.std.proofs.Common.{◌<◌, length, arith}
+use Rattle.lustat_warn.specs.Scans.{spelled}
+use Rattle.lustat_warn.proofs.Mentioned.{nodes_pushed}
+use Rattle.lustat_warn.proofs.mentions.+calls.Goals as goal
+
+pub push_all_calls-loop-e-preserved : goal.push_all_calls-loop-e-preserved
+push_all_calls-loop-e-preserved t c =
+    let lt : c.loop-e.e-index < length c.args.all.now = omega arith in
+    nodes_pushed (spelled c.args.names.now.items) (spelled c.loop-e.names.items) (spelled c.push_calls.new.names.items) c.args.all.now c.loop-e.e-index c.e-item.result lt c.e-item.is c.loop-e.invariant c.in_ok-push_calls.ensures

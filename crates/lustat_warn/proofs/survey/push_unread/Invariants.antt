@@ -1,0 +1,7 @@
+use Rattle.lustat_warn.specs.Warnings.{UnreadIn}
+use Rattle.lustat_warn.specs.Scans.{Adds}
+use Rattle.lustat_warn.proofs.Adding.{AmongFirst}
+use Rattle.lustat_warn.proofs.survey.push_unread.Given as goal
+
+abbrev pub invariant-loop-j : goal.invariant-loop-j
+invariant-loop-j l = Adds (AmongFirst l.j l.declarations (UnreadIn l.read l.kind l.place)) l.initial.found.items l.found.items

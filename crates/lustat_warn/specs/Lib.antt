@@ -1,0 +1,4 @@
+pub mod Dividing
+pub mod Warnings
+pub mod Scans
+pub mod Vectors
