@@ -149,8 +149,8 @@ fn put_line<V: Write>(stop: CallError, err: &mut Sink<V>) -> u8
 /// One call of the program, of which the first word is the program's name. Gives the exit status: 0 where it is done,
 /// also where a site of a replay faulted, and for help; 1 where a text is refused; 2 for a mistake in the words or a file that
 /// can't be read; 3 for a fault of an evaluation or a run, a run that was cut short, a lack of memory, or output or a dump that can't be
-/// written. A refusal is one line on the error stream, with its reason behind it where that is asked for; the turns of a replay go there too,
-/// where they are asked for. A run waits for its threads; the other commands wait for nobody.
+/// written. A refusal is one line on the error stream, with its reason behind it where that is asked for, or of a check all faults; the
+/// turns of a replay and warnings go there too, where they are asked for. A run waits for its threads; the other commands wait for nobody.
 ///
 /// Where a dump is asked for, its file is written before the answer, by one write: of an evaluation that of the whole table, or, where it
 /// stops at a fault, of all instants before it; of a run that of the whole outputs, and none where it stops; of a replay that of the
