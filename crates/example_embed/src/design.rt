@@ -33,6 +33,7 @@ pub(crate) const SCHEDULE: &str = "0100\n";
 pub(crate) const OUTPUTS: EvalRequest<'static> = EvalRequest {
     main: "main",
     explain: false,
+    short: false,
     program: "design",
     table: "table",
     all: false,

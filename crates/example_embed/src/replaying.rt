@@ -40,6 +40,7 @@ fn asked() -> ReplayRequest<'static>
     ReplayRequest {
         main: "main",
         explain: false,
+        short: false,
         program: "design",
         place: "placement",
         table: "table",

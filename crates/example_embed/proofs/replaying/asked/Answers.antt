@@ -11,6 +11,7 @@ returns-clause-asked c = record {
   named = refl;
   main = refl;
   explain = refl;
+  short = refl;
   program = refl;
   place = refl;
   table = refl;
