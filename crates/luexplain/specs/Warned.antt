@@ -8,10 +8,10 @@ use Rattle.luexplain.specs.Place.{spot}
 
 -- its code and its name
 abbrev pub title : WarningKind → List ℕ
-title UnusedNode = codes "W1 UnusedNode"
-title UnusedInput = codes "W2 UnusedInput"
-title UnusedLocal = codes "W3 UnusedLocal"
-title DividingBranch = codes "W4 DividingBranch"
+title UnusedNode = codes "W01 UnusedNode"
+title UnusedInput = codes "W02 UnusedInput"
+title UnusedLocal = codes "W03 UnusedLocal"
+title DividingBranch = codes "W04 DividingBranch"
 
 -- the line of a warning: `PATH:LINE:COLUMN: CODE NAME: what it says`
 pub record IsWarned (path text : List ℕ) (w : Warning) (line : List ℕ) : Type 0 where

@@ -696,7 +696,7 @@ pub(crate) fn of_value(key: &str) -> Wording {
     }
 }
 
-// W1 UnusedNode to W4 DividingBranch
+// W01 UnusedNode to W04 DividingBranch
 pub(crate) const UNUSED_NODE: Wording = Wording {
     what: "No equation calls the node @.",
     mend: "",

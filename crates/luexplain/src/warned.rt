@@ -16,10 +16,10 @@ fn title(kind: WarningKind) -> &'static str
     ensures { result.now ≡ title kind }
 {
     match kind {
-        WarningKind::UnusedNode => "W1 UnusedNode",
-        WarningKind::UnusedInput => "W2 UnusedInput",
-        WarningKind::UnusedLocal => "W3 UnusedLocal",
-        WarningKind::DividingBranch => "W4 DividingBranch",
+        WarningKind::UnusedNode => "W01 UnusedNode",
+        WarningKind::UnusedInput => "W02 UnusedInput",
+        WarningKind::UnusedLocal => "W03 UnusedLocal",
+        WarningKind::DividingBranch => "W04 DividingBranch",
     }
 }
 

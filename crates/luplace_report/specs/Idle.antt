@@ -8,7 +8,7 @@ use Rattle.luplace_report.specs.Table.{flow_count}
 -- the line of a site, behind the path of the placement
 abbrev pub idle_line : List ℕ → PlanView → ℕ → List ℕ
 idle_line path plan s =
-    path ++ (codes ": W5 IdleSite: No variable stands at the site `"
+    path ++ (codes ": W05 IdleSite: No variable stands at the site `"
     ++ (site_name plan.names s ++ codes "`.\n"))
 
 -- a line where no flow stands at the site

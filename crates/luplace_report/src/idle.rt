@@ -21,7 +21,7 @@ fn put_line(text: &mut String, path: &str, plan: &Plan, site: u8) -> Result<(), 
     ensures { Adds result text.old text.new (idle_line path.now plan.now site) }
 {
     text.push_str(path)?;
-    text.push_str(": W5 IdleSite: No variable stands at the site `")?;
+    text.push_str(": W05 IdleSite: No variable stands at the site `")?;
     text.push_str(site_name(plan.sites(), site))?;
     put_end(text)
 }
