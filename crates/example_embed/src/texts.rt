@@ -4,7 +4,7 @@ ghost use Rattle.std.specs.Prelude.{◌≡◌, [], option_map};
 ghost use Rattle.example_embed.specs.Texts.{text_of};
 
 use crate::design::{DESIGN, PLACEMENT, SCHEDULE, TABLE};
-use lusdist_shell::{Dumps, Files, ReadError, WriteError};
+use lusdist_shell::{Dumps, Files, ReadError, ReadFault, WriteError};
 use std::alloc::Global;
 
 /// The texts, as files of these names.
@@ -32,7 +32,7 @@ impl Files for Texts {
 
     fn read(&self, alloc: Global, path: &str) -> Result<Vec<u8>, ReadError> {
         let Some(text) = text_of(path) else {
-            return Err(ReadError::CannotRead);
+            return Err(ReadError::CannotRead(ReadFault::Missing));
         };
         match String::from_str(alloc, text) {
             Ok(text) => Ok(text.into_bytes()),

@@ -1,5 +1,6 @@
 pub mod Near
 pub mod Place
+pub mod Refusals
 pub mod Syntax
 pub mod Text
 pub mod Texts

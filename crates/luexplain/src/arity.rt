@@ -1,6 +1,6 @@
 //! The rules of numbers: `E14`, and `E19`.
 
-use crate::find::{Spot, called, type_at_place};
+use crate::find::{Spot, called, start_of_part, type_at_place};
 use crate::said::{Said, say};
 use crate::sentences;
 use crate::words::Part;
@@ -52,6 +52,40 @@ fn wrong_in<'a>(spot: &Spot<'_, 'a>) -> Option<Number<'a>> {
         return None;
     }
     Some(Number::Sides(left, right))
+}
+
+/// The token of the first call with a wrong number of arguments, or else of that inside an expression with a wrong number of values.
+pub(crate) fn arity_token(spot: &Spot) -> usize {
+    let mut inside = 0_usize;
+    for (i, e) in spot.parts.iter().enumerate() {
+        if let Expr::Call(f, arguments) = *e {
+            if let Some(node) = called(spot, f) {
+                if arguments.len() != node.inputs.as_slice().len() {
+                    return start_of_part(spot, i);
+                }
+                if i != 0 && inside == 0 && node.outputs.as_slice().len() != 1 {
+                    inside = start_of_part(spot, i);
+                }
+            }
+        }
+    }
+    inside
+}
+
+/// The token of the first merge whose branches aren't the names of the enumeration that its variable is of.
+pub(crate) fn merge_token(spot: &Spot) -> usize {
+    for (i, e) in spot.parts.iter().enumerate() {
+        if let Expr::Merge(x, patterns, _) = *e {
+            if let Some(Kind::Enum(place, _)) = spot.scope.kind(x.as_str()) {
+                if let Some(declared) = type_at_place(spot.catalog.program(), place) {
+                    if !are_names(patterns.as_slice(), declared.names.as_slice()) {
+                        return start_of_part(spot, i);
+                    }
+                }
+            }
+        }
+    }
+    0
 }
 
 /// `E14`

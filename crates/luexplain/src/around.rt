@@ -18,9 +18,9 @@ pub(crate) struct Around<'t> {
     /// The token before it, where it begins, and the one before that.
     pub(crate) before: &'t [u8],
     pub(crate) before_byte: usize,
-    second: &'t [u8],
+    pub(crate) second: &'t [u8],
     /// The first token of the statement, and how many it has before the place.
-    head: &'t [u8],
+    pub(crate) head: &'t [u8],
     count: usize,
     shape: Shape,
     /// How far the text has come.
@@ -41,11 +41,11 @@ struct Shape {
     lacks_else: bool,
 }
 
-fn is_word(byte: u8) -> bool {
+pub(crate) fn is_word(byte: u8) -> bool {
     byte.is_ascii_alphanumeric() || byte == b'_'
 }
 
-fn is(token: &[u8], word: &str) -> bool {
+pub(crate) fn is(token: &[u8], word: &str) -> bool {
     token == word.as_bytes()
 }
 
@@ -95,7 +95,7 @@ fn is_opener(token: Token) -> bool {
 }
 
 /// How many tokens stand before the statement that the last of them belongs to.
-fn start_of(tokens: &[Lexeme]) -> usize {
+pub(crate) fn start_of(tokens: &[Lexeme]) -> usize {
     let mut start = 0_usize;
     for (i, lexeme) in tokens.iter().enumerate() {
         if is_opener(lexeme.token) {
@@ -223,23 +223,27 @@ pub(crate) fn what_stands<'t>(text: &'t [u8], byte: usize, tokens: &[Lexeme]) ->
     }
 }
 
-/// Whether a comment that begins with `(*` has no end in a text, outside of comments that begin with `--`.
-fn is_comment_open(text: &[u8]) -> bool {
+/// Where a comment begins with `(*` that has no end in a text, outside of comments that begin with `--`.
+pub(crate) fn open_comment(text: &[u8]) -> Option<usize> {
     let mut last = b' ';
     let mut is_line = false;
-    let mut is_open = false;
-    for byte in text {
+    let mut open = None;
+    for (i, byte) in text.iter().enumerate() {
         if is_line {
             is_line = *byte != b'\n';
-        } else if is_open {
-            is_open = last != b'*' || *byte != b')';
+        } else if open.is_some() {
+            if last == b'*' && *byte == b')' {
+                open = None;
+            }
         } else {
             is_line = last == b'-' && *byte == b'-';
-            is_open = last == b'(' && *byte == b'*';
+            if last == b'(' && *byte == b'*' {
+                open = Some(i.saturating_sub(1));
+            }
         }
         last = *byte;
     }
-    is_open
+    open
 }
 
 /// Whether a sign stands at the front, or a word.
@@ -334,7 +338,7 @@ fn is_unclosed(around: &Around) -> bool {
 }
 
 /// Whether the refused token is one behind the end of an equation or a declaration.
-fn is_unended(around: &Around) -> bool {
+pub(crate) fn is_unended(around: &Around) -> bool {
     if around.count < 3 || around.shape.is_open {
         return false;
     }
@@ -412,7 +416,7 @@ fn is_operand(around: &Around, word: &str) -> bool {
 fn fits(around: &Around, stand: Stand) -> bool {
     match stand {
         Stand::Comment => {
-            begins(around, "(*") || is_inside(around, "(*") || is_comment_open(around.past)
+            begins(around, "(*") || is_inside(around, "(*") || open_comment(around.past).is_some()
         }
         Stand::At(word) => begins(around, word),
         Stand::Inside(sign) => is_inside(around, sign),

@@ -1,9 +1,10 @@
 //! The rules of initialisation: `E30` and `E31`.
 
-use crate::find::Spot;
+use crate::find::{Spot, start_of_part};
 use crate::hold::{Hold, put_hold};
 use crate::said::{Said, say};
 use crate::sentences;
+use crate::tokens::{operand_start, right_start};
 use crate::typing::kind_of;
 use crate::words::{ClockWording, Part};
 use lubase::Name;
@@ -39,6 +40,8 @@ enum Need<'a> {
 struct Gap<'a> {
     need: Need<'a>,
     part: &'a Expr,
+    /// The number of the part among the operands, and then the token that it begins with.
+    at: usize,
 }
 
 /// What may have no value at first in a part of an expression, but for the parts inside it, and needs one.
@@ -50,13 +53,21 @@ fn gap_at<'a>(scope: &Scope, marks: &[bool], e: &'a Expr) -> Option<Gap<'a>> {
         Expr::Call(f, arguments) => (Need::Argument(f.as_str()), arguments.as_slice()),
         Expr::Current(x) if !needs_met(scope, marks, e) => {
             let need = Need::Held(x.as_str());
-            return Some(Gap { need, part: e });
+            return Some(Gap {
+                need,
+                part: e,
+                at: 0,
+            });
         }
         _ => return None,
     };
-    for part in all {
+    for (i, part) in all.iter().enumerate() {
         if is_one(scope, marks, part) {
-            return Some(Gap { need, part });
+            let at = match e {
+                Expr::Binary(_, _, _) => 1,
+                _ => i,
+            };
+            return Some(Gap { need, part, at });
         }
     }
     None
@@ -74,16 +85,18 @@ fn need_of<'a>(scope: &Scope, left: &'a [Name]) -> Option<Need<'a>> {
 
 /// What may have no value at first in an equation, and needs one: first in its right side, then what it defines.
 fn gap_in<'a>(spot: &Spot<'_, 'a>, marks: &[bool]) -> Option<Gap<'a>> {
-    for e in spot.parts {
-        let found = gap_at(spot.scope, marks, *e);
-        if found.is_some() {
-            return found;
+    for (i, e) in spot.parts.iter().enumerate() {
+        if let Some(found) = gap_at(spot.scope, marks, *e) {
+            let at = operand_start(*e, start_of_part(spot, i), found.at);
+            return Some(Gap { at, ..found });
         }
     }
-    let need = need_of(spot.scope, spot.equation.left.as_slice())?;
+    let left = spot.equation.left.as_slice();
+    let need = need_of(spot.scope, left)?;
     let part = &spot.equation.right;
     if is_one(spot.scope, marks, part) {
-        return Some(Gap { need, part });
+        let at = right_start(left);
+        return Some(Gap { need, part, at });
     }
     None
 }
@@ -173,6 +186,18 @@ fn said_of_gap<'a>(
         sentences::NEEDED_VALUE,
         &[Part::Value(root), need_part(gap.need), start, start],
     )
+}
+
+/// The token of what may have no value at first and needs one.
+pub(crate) fn gap_token(alloc: Global, spot: &Spot) -> Result<usize, AllocError> {
+    if !lefts_are_known(spot.scope) {
+        return Ok(0);
+    }
+    let marks = least_classes(alloc, spot.scope)?;
+    match gap_in(spot, &marks) {
+        Some(gap) => Ok(gap.at),
+        None => Ok(0),
+    }
 }
 
 /// `E30`
@@ -276,6 +301,20 @@ fn said_of_held(
     };
     let is_input = spot.scope.is_input(clock);
     said_of_hold(alloc, is_input, is_new, &hold, written.as_str())
+}
+
+/// The token of the first `current` in an equation of a variable whose clock may be false at first.
+pub(crate) fn current_token(spot: &Spot) -> usize {
+    for (i, e) in spot.parts.iter().enumerate() {
+        if let Expr::Current(x) = *e {
+            if let Some(ClockRef::On(clock, pattern)) = spot.scope.clock(x.as_str()) {
+                if !is_begun(spot.scope, clock, pattern) {
+                    return start_of_part(spot, i);
+                }
+            }
+        }
+    }
+    0
 }
 
 /// `E31`: the first variable of a `current` in an equation whose clock may be false at first.

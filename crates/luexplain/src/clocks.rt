@@ -1,8 +1,9 @@
 //! The rules of clocks: `E20` to `E23`.
 
-use crate::find::{Spot, role_at};
+use crate::find::{Spot, role_at, start_of_part};
 use crate::said::{Said, say};
 use crate::sentences;
+use crate::tokens::{operand_start, right_start};
 use crate::words::{ClockWording, Part};
 use lustat_rules::{ClockRef, PatternRef, Scope};
 use lutree::{Declaration, Expr, Kind, Node, Pattern, Program};
@@ -16,6 +17,8 @@ struct Apart<'a> {
     on: ClockRef<'a>,
     second: Side<'a>,
     other: ClockRef<'a>,
+    /// The number of what is at fault among the operands, and then the token that it begins with.
+    at: usize,
 }
 
 /// What stands on a clock.
@@ -80,6 +83,7 @@ fn apart_with<'a>(
     first: &'a Expr,
     second: Side<'a>,
     other: ClockRef<'a>,
+    at: usize,
 ) -> Option<Apart<'a>> {
     let on = clock_of(scope, first)?;
     if on.is(&other) {
@@ -91,21 +95,22 @@ fn apart_with<'a>(
         on,
         second,
         other,
+        at,
     })
 }
 
 /// Two expressions on two clocks.
-fn apart_of_two<'a>(scope: &Scope<'a>, a: &'a Expr, b: &'a Expr) -> Option<Apart<'a>> {
+fn apart_of_two<'a>(scope: &Scope<'a>, a: &'a Expr, b: &'a Expr, at: usize) -> Option<Apart<'a>> {
     let other = clock_of(scope, b)?;
-    apart_with(scope, a, Side::Value(b), other)
+    apart_with(scope, a, Side::Value(b), other, at)
 }
 
 /// The first of some expressions with a clock and another on another clock.
 fn apart_among<'a>(scope: &Scope<'a>, all: &'a [Expr]) -> Option<Apart<'a>> {
     for first in all {
         if clock_of(scope, first).is_some() {
-            for other in all {
-                let found = apart_of_two(scope, first, other);
+            for (i, other) in all.iter().enumerate() {
+                let found = apart_of_two(scope, first, other, i);
                 if found.is_some() {
                     return found;
                 }
@@ -119,23 +124,23 @@ fn apart_among<'a>(scope: &Scope<'a>, all: &'a [Expr]) -> Option<Apart<'a>> {
 /// What stands on two clocks in a part of an expression, but for the parts inside it.
 fn apart_at<'a>(scope: &Scope<'a>, e: &'a Expr) -> Option<Apart<'a>> {
     match e {
-        Expr::Binary(_, a, b) => apart_of_two(scope, a, b),
-        Expr::If(c, a, b) => match apart_of_two(scope, c, a) {
-            None => match apart_of_two(scope, c, b) {
-                None => apart_of_two(scope, a, b),
+        Expr::Binary(_, a, b) => apart_of_two(scope, a, b, 1),
+        Expr::If(c, a, b) => match apart_of_two(scope, c, a, 1) {
+            None => match apart_of_two(scope, c, b, 2) {
+                None => apart_of_two(scope, a, b, 2),
                 found => found,
             },
             found => found,
         },
         Expr::When(a, clock) => {
             let name = clock.variable.as_str();
-            apart_with(scope, a, Side::Variable(name), scope.clock(name)?)
+            apart_with(scope, a, Side::Variable(name), scope.clock(name)?, 1)
         }
         Expr::Merge(c, patterns, branches) => {
             let name = c.as_str();
-            for (pattern, branch) in patterns.as_slice().iter().zip(branches) {
+            for (i, (pattern, branch)) in patterns.as_slice().iter().zip(branches).enumerate() {
                 let other = ClockRef::On(name, PatternRef::of(pattern));
-                let found = apart_with(scope, branch, Side::Branch, other);
+                let found = apart_with(scope, branch, Side::Branch, other, i);
                 if found.is_some() {
                     return found;
                 }
@@ -153,15 +158,17 @@ fn apart_of_sides<'a>(spot: &Spot<'_, 'a>) -> Option<Apart<'a>> {
     let (x, others) = spot.equation.left.as_slice().split_first()?;
     let first = Side::Variable(x.as_str());
     let on = scope.clock(x.as_str())?;
-    for y in others {
+    for (i, y) in others.iter().enumerate() {
         if let Some(other) = scope.clock(y.as_str()) {
             if !on.is(&other) {
                 let second = Side::Variable(y.as_str());
+                let at = i.saturating_add(1).saturating_mul(2);
                 return Some(Apart {
                     first,
                     on,
                     second,
                     other,
+                    at,
                 });
             }
         }
@@ -171,20 +178,22 @@ fn apart_of_sides<'a>(spot: &Spot<'_, 'a>) -> Option<Apart<'a>> {
         return None;
     }
     let second = Side::Right;
+    let at = right_start(spot.equation.left.as_slice());
     Some(Apart {
         first,
         on,
         second,
         other,
+        at,
     })
 }
 
 /// What stands on two clocks in an equation: first in its right side, then between its sides.
 fn apart_in<'a>(spot: &Spot<'_, 'a>) -> Option<Apart<'a>> {
-    for e in spot.parts {
-        let found = apart_at(spot.scope, *e);
-        if found.is_some() {
-            return found;
+    for (i, e) in spot.parts.iter().enumerate() {
+        if let Some(found) = apart_at(spot.scope, *e) {
+            let at = operand_start(*e, start_of_part(spot, i), found.at);
+            return Some(Apart { at, ..found });
         }
     }
     apart_of_sides(spot)
@@ -200,6 +209,21 @@ fn held_in<'a>(spot: &Spot<'_, 'a>) -> Option<&'a str> {
         }
     }
     None
+}
+
+/// The token that is at fault where clocks don't agree.
+pub(crate) fn apart_token(spot: &Spot) -> usize {
+    for (i, e) in spot.parts.iter().enumerate() {
+        if let Expr::Current(x) = *e {
+            if let Some(ClockRef::Base) = spot.scope.clock(x.as_str()) {
+                return start_of_part(spot, i);
+            }
+        }
+    }
+    match apart_in(spot) {
+        Some(found) => found.at,
+        None => 0,
+    }
 }
 
 /// `E20`
@@ -247,6 +271,29 @@ fn no_clock<'a>(scope: &Scope, variable: &'a str, patterns: &[Pattern]) -> Optio
         }
     }
     None
+}
+
+/// The token of the first variable that an equation names as a clock and that isn't one.
+pub(crate) fn no_clock_token(spot: &Spot) -> usize {
+    for (i, e) in spot.parts.iter().enumerate() {
+        let start = start_of_part(spot, i);
+        let (found, token) = match *e {
+            Expr::When(_, clock) => {
+                let asked = slice::from_ref(&clock.pattern);
+                let found = no_clock(spot.scope, clock.variable.as_str(), asked);
+                (found, operand_start(*e, start, 1))
+            }
+            Expr::Merge(x, patterns, _) => {
+                let found = no_clock(spot.scope, x.as_str(), patterns.as_slice());
+                (found, start.saturating_add(1))
+            }
+            _ => (None, start),
+        };
+        if found.is_some() {
+            return token;
+        }
+    }
+    0
 }
 
 /// The first variable that an equation names as a clock and that isn't one.

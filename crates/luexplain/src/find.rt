@@ -6,13 +6,22 @@ use lustat_rules::{Catalog, Scope};
 use lutree::{Declaration, DeclaredName, Equation, Expr, Node, Program, TypeDeclaration};
 use std::alloc::AllocError;
 
-/// A refused equation, with the program, its node, and the parts of its right side.
+/// A refused equation, with the program, its node, and the parts of its right side, each with its first token (see `tokens`).
 #[derive(Clone, Copy)]
 pub(crate) struct Spot<'s, 'a> {
     pub(crate) catalog: &'s Catalog<'a>,
     pub(crate) scope: &'s Scope<'a>,
     pub(crate) equation: &'a Equation,
     pub(crate) parts: &'s [&'a Expr],
+    pub(crate) starts: &'s [usize],
+}
+
+/// The first token of a part.
+pub(crate) fn start_of_part(spot: &Spot, number: usize) -> usize {
+    match spot.starts.get(number) {
+        Some(start) => *start,
+        None => 0,
+    }
 }
 
 /// The first node of a name.

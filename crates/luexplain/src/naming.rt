@@ -2,12 +2,13 @@
 
 use crate::around::{habit_of_call, habit_of_type, habit_of_value};
 use crate::circle::circle;
-use crate::find::{Spot, label_named, node_named, role_at, type_of_label};
+use crate::find::{Spot, label_named, node_named, role_at, start_of_part, type_of_label};
 use crate::near::{FAR, are_apart};
 use crate::place::line_of;
 use crate::said::{Said, say};
 use crate::sentences;
 use crate::sentences::Wording;
+use crate::tokens::operand_start;
 use crate::words::Part;
 use lubase::{Name, Places};
 use lustat_rules::{Catalog, Scope, StatError};
@@ -261,6 +262,90 @@ pub(crate) fn unknown_name(alloc: Global, spot: &Spot) -> Result<Said, AllocErro
         }
     }
     say(alloc, sentences::UNKNOWN_NAME, &[])
+}
+
+/// The token at which a part names a variable outside of its parts, if it does.
+fn variable_token(e: &Expr, start: usize) -> usize {
+    match e {
+        Expr::When(_, _) => operand_start(e, start, 1),
+        Expr::Current(_) | Expr::Merge(_, _, _) => start.saturating_add(1),
+        _ => start,
+    }
+}
+
+/// The token of the first name of an enumeration outside of an expression's parts that isn't known.
+fn label_token(catalog: &Catalog, e: &Expr, start: usize) -> usize {
+    match e {
+        Expr::When(_, _) => operand_start(e, start, 1).saturating_sub(1),
+        Expr::Merge(_, patterns, _) => {
+            for (i, pattern) in patterns.as_slice().iter().enumerate() {
+                if unknown_label(catalog, slice::from_ref(pattern)).is_some() {
+                    return operand_start(e, start, i).saturating_sub(2);
+                }
+            }
+            start
+        }
+        _ => start,
+    }
+}
+
+/// The token of the first name of an equation that isn't known.
+pub(crate) fn name_token(spot: &Spot) -> usize {
+    for (i, x) in spot.equation.left.as_slice().iter().enumerate() {
+        if spot.scope.place(x.as_str()).is_none() {
+            return i.saturating_mul(2);
+        }
+    }
+    for (i, e) in spot.parts.iter().enumerate() {
+        let start = start_of_part(spot, i);
+        if let Some(name) = variable_of(*e) {
+            if spot.scope.place(name).is_none() {
+                return variable_token(*e, start);
+            }
+        }
+        if unknown_label_at(spot.catalog, *e).is_some() {
+            return label_token(spot.catalog, *e, start);
+        }
+    }
+    0
+}
+
+/// The token of the first call in an equation of this node, or, where none is given, of one that isn't known.
+pub(crate) fn call_token(spot: &Spot, node: Option<&str>) -> usize {
+    for (i, e) in spot.parts.iter().enumerate() {
+        if let Expr::Call(f, _) = *e {
+            let is_it = match node {
+                Some(name) => f.is(name),
+                None => spot.catalog.find(f.as_str()).is_none(),
+            };
+            if is_it {
+                return start_of_part(spot, i);
+            }
+        }
+    }
+    0
+}
+
+/// The token of the first variable on the left of an equation that it may not define, by itself, or because an equation before it does.
+pub(crate) fn defined_token(alloc: Global, spot: &Spot) -> Result<usize, AllocError> {
+    let left = spot.equation.left.as_slice();
+    let places = places_of(alloc, left)?;
+    for (i, x) in left.iter().enumerate() {
+        if spot.scope.is_input(x.as_str()) || places.find(x.as_str()) != Some(i) {
+            return Ok(i.saturating_mul(2));
+        }
+    }
+    for other in spot.scope.node().equations.as_slice() {
+        if other.byte == spot.equation.byte {
+            break;
+        }
+        for x in other.left.as_slice() {
+            if let Some(i) = places.find(x.as_str()) {
+                return Ok(i.saturating_mul(2));
+            }
+        }
+    }
+    Ok(0)
 }
 
 /// How a name is reported that is no type.

@@ -8,6 +8,7 @@ use crate::near::{FAR, are_apart};
 use crate::said::{Explanation, Found, Said, reported_of, say, say_at};
 use crate::sentences;
 use crate::sought::{entry_in, key_in, text_behind};
+use crate::unread::said_of_order;
 use crate::words::Part;
 use lulimits::limits::{LONGEST_PLACEMENT, MOST_SITES};
 use luplace_file::PlaceError;
@@ -212,6 +213,9 @@ pub fn of_place(
 ) -> Result<Explanation, AllocError>
     ensures { IfOk result (IsExplainedSomewhere path.now text.now) }
 {
-    let found = found_at(alloc, text, program, main, error)?;
+    let found = match said_of_order(alloc, path, "PLACE")? {
+        Some(said) => Found { byte: None, said },
+        None => found_at(alloc, text, program, main, error)?,
+    };
     reported_of(alloc, path, text, found)
 }

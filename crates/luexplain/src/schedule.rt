@@ -8,6 +8,7 @@ use crate::bytes::from_byte;
 use crate::place::where_in;
 use crate::said::{Explanation, Said, reported, say, whole};
 use crate::sentences;
+use crate::unread::said_of_order;
 use crate::words::Part;
 use lulimits::limits::LONGEST_SCHEDULE;
 use lusdist_shell::ScheduleError;
@@ -63,6 +64,9 @@ pub fn of_schedule(
 ) -> Result<Explanation, AllocError>
     ensures { IfOk result (IsExplanation (spec.place_of_schedule path.now text.now error.now)) }
 {
-    let said = said_of_schedule(alloc, text, error)?;
+    let said = match said_of_order(alloc, path, "SCHEDULE")? {
+        Some(said) => said,
+        None => said_of_schedule(alloc, text, error)?,
+    };
     Ok(reported(place_of_schedule(alloc, path, text, error)?, said))
 }

@@ -551,6 +551,33 @@ pub(crate) const APART: Wording = Wording {
     mend: PLACE_TOGETHER,
 };
 
+// F01 CannotRead
+pub(crate) const NO_FILE: Wording = Wording {
+    what: "There is no such file.",
+    mend: "Look at its path: it begins at the folder in which the command is called.",
+};
+
+pub(crate) const FOLDER: Wording = Wording {
+    what: "This is a folder.",
+    mend: "Write the path of a file in it.",
+};
+
+pub(crate) const FORBIDDEN_FILE: Wording = Wording {
+    what: "The system doesn't let this file be read.",
+    mend: "Ask for the right to read it (`chmod u+r`), and to pass the folders on its path.",
+};
+
+pub(crate) const UNREAD_FILE: Wording = Wording {
+    what: "The system can't read this file.",
+    mend: "See whether another program can, as `cat`.",
+};
+
+/// A text whose path ends as those of others do.
+pub(crate) const OTHER_FILE: Wording = Wording {
+    what: "@ is read as the @, and is none.",
+    mend: "The files come in this order, as far as the command takes them: PROGRAM, PLACE, TABLE, SCHEDULE.",
+};
+
 // S01 BadSchedule
 pub(crate) const NO_TURN: Wording = Wording {
     what: "@ is no turn, no space and no line feed.",

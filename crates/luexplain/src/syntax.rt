@@ -12,6 +12,7 @@ use crate::place::{line_of, where_in};
 use crate::said::{Explanation, Said, reported, say, whole};
 use crate::sentences;
 use crate::sentences::Wording;
+use crate::unread::said_of_order;
 use crate::words::Part;
 use lulimits::limits::LONGEST_PROGRAM;
 use lusyn::SynError;
@@ -26,7 +27,7 @@ fn is_ascii(byte: u8) -> bool
 }
 
 /// Where the first byte above 127 stands.
-fn first_wide(text: &[u8]) -> usize
+pub(crate) fn first_wide(text: &[u8]) -> usize
     ensures { result ≡ prefix_len spec.is_ascii text.now }
 {
     text.iter().take_while(|byte| is_ascii(**byte)).count()
@@ -42,7 +43,11 @@ fn is_sign(byte: u8) -> bool {
 }
 
 /// The tokens before a byte.
-fn tokens_before(alloc: Global, text: &[u8], byte: usize) -> Result<Vec<Lexeme<'_>>, AllocError> {
+pub(crate) fn tokens_before(
+    alloc: Global,
+    text: &[u8],
+    byte: usize,
+) -> Result<Vec<Lexeme<'_>>, AllocError> {
     let past = text.get(..byte).unwrap_or(text);
     let Ok(past) = str::from_utf8(past) else {
         return Ok(Vec::new(alloc));
@@ -82,12 +87,12 @@ fn said_of_token(alloc: Global, text: &[u8], around: &Around) -> Result<Said, Al
 }
 
 /// What is said of a byte with which no program goes on.
-fn said_of_byte(alloc: Global, text: &[u8], byte: usize) -> Result<Said, AllocError> {
-    if text.len() <= byte {
+fn said_of_byte(alloc: Global, text: &[u8], read: &[u8], byte: usize) -> Result<Said, AllocError> {
+    if read.len() <= byte {
         return say(alloc, sentences::TEXT_ENDS, &[]);
     }
-    let tokens = tokens_before(alloc, text, byte)?;
-    let around = what_stands(text, byte, tokens.as_slice());
+    let tokens = tokens_before(alloc, read, byte)?;
+    let around = what_stands(read, byte, tokens.as_slice());
     said_of_token(alloc, text, &around)
 }
 
@@ -99,12 +104,17 @@ fn of_wide(text: &[u8]) -> Wording {
     }
 }
 
-/// What is said of a text that is no program.
-fn said_of_syntax(alloc: Global, text: &[u8], error: &SynError) -> Result<Said, AllocError> {
+/// What is said of a text that is no program and is read as another of its length.
+fn said_of_syntax(
+    alloc: Global,
+    text: &[u8],
+    read: &[u8],
+    error: &SynError,
+) -> Result<Said, AllocError> {
     match error {
-        SynError::Syntax { byte } => said_of_byte(alloc, text, *byte),
+        SynError::Syntax { byte } => said_of_byte(alloc, text, read, *byte),
         SynError::NumberTooLarge { byte } => {
-            let token = token_of(from_byte(text, *byte));
+            let token = token_of(from_byte(read, *byte));
             say(alloc, sentences::LARGE_NUMBER, &[Part::Bytes(token)])
         }
         SynError::NotAscii => say(alloc, of_wide(text), &[]),
@@ -139,6 +149,23 @@ fn place_of_syntax(
     }
 }
 
+/// The same of a text that is read as another of its length.
+pub(crate) fn of_syntax_as(
+    alloc: Global,
+    path: &str,
+    text: &[u8],
+    read: &[u8],
+    error: &SynError,
+) -> Result<Explanation, AllocError>
+    ensures { IfOk result (IsExplanation (spec.place_of_syntax path.now text.now error.now)) }
+{
+    let said = match said_of_order(alloc, path, "PROGRAM")? {
+        Some(said) => said,
+        None => said_of_syntax(alloc, text, read, error)?,
+    };
+    Ok(reported(place_of_syntax(alloc, path, text, error)?, said))
+}
+
 /// What a user reads about a text that is no program: its place, what is wrong, and how to mend it. `text` is the text of the file of this path.
 ///
 /// # Errors
@@ -152,6 +179,5 @@ pub fn of_syntax(
 ) -> Result<Explanation, AllocError>
     ensures { IfOk result (IsExplanation (spec.place_of_syntax path.now text.now error.now)) }
 {
-    let said = said_of_syntax(alloc, text, error)?;
-    Ok(reported(place_of_syntax(alloc, path, text, error)?, said))
+    of_syntax_as(alloc, path, text, text, error)
 }

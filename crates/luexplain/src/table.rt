@@ -9,6 +9,7 @@ use crate::find::node_named;
 use crate::header::bad_header;
 use crate::said::{Explanation, Found, Said, reported_of, say, say_at};
 use crate::stray::{said_of_empty, stray_in};
+use crate::unread::said_of_order;
 use crate::words::Part;
 use crate::{sentences, table_sentences};
 use lulimits::limits::LONGEST_TABLE;
@@ -155,6 +156,9 @@ pub fn of_table(
         Some(node) => node.inputs.as_slice(),
         None => &[],
     };
-    let found = found_in(alloc, text, program, inputs, error)?;
+    let found = match said_of_order(alloc, path, "TABLE")? {
+        Some(said) => Found { byte: None, said },
+        None => found_in(alloc, text, program, inputs, error)?,
+    };
     reported_of(alloc, path, text, found)
 }

@@ -1,8 +1,9 @@
 //! The rule of types, `E13`.
 
-use crate::find::{Spot, called};
+use crate::find::{Spot, called, start_of_part};
 use crate::said::{Said, say};
 use crate::sentences;
+use crate::tokens::{operand_start, right_start};
 use crate::words::Part;
 use lubase::Name;
 use lusyn_grammar::{infix_token, prefix_token};
@@ -17,6 +18,8 @@ struct Clash<'a> {
     wanted: Kind,
     second: Side<'a>,
     found: Kind,
+    /// The number of the second among the operands, and then the token that it begins with.
+    at: usize,
 }
 
 /// What is of a type.
@@ -82,6 +85,7 @@ fn clash_with<'a>(
     first: Side<'a>,
     wanted: Kind,
     e: &'a Expr,
+    at: usize,
 ) -> Option<Clash<'a>> {
     let found = kind_of(spot, e)?;
     if found == wanted {
@@ -93,13 +97,14 @@ fn clash_with<'a>(
         wanted,
         second,
         found,
+        at,
     })
 }
 
 /// Two expressions of two types.
-fn clash_of_two<'a>(spot: &Spot<'_, 'a>, a: &'a Expr, b: &'a Expr) -> Option<Clash<'a>> {
+fn clash_of_two<'a>(spot: &Spot<'_, 'a>, a: &'a Expr, b: &'a Expr, at: usize) -> Option<Clash<'a>> {
     let kind = kind_of(spot, a)?;
-    clash_with(spot, Side::Value(a), kind, b)
+    clash_with(spot, Side::Value(a), kind, b, at)
 }
 
 /// An argument that isn't of the type of its input.
@@ -108,8 +113,9 @@ fn clash_of_arguments<'a>(
     f: &'a Name,
     arguments: &'a [Expr],
 ) -> Option<Clash<'a>> {
-    for (input, e) in called(spot, f)?.inputs.as_slice().iter().zip(arguments) {
-        let found = clash_with(spot, Side::Input(input, f), input.kind, e);
+    let inputs = called(spot, f)?.inputs.as_slice();
+    for (i, (input, e)) in inputs.iter().zip(arguments).enumerate() {
+        let found = clash_with(spot, Side::Input(input, f), input.kind, e, i);
         if found.is_some() {
             return found;
         }
@@ -122,29 +128,29 @@ fn clash_at<'a>(spot: &Spot<'_, 'a>, e: &'a Expr) -> Option<Clash<'a>> {
     match e {
         Expr::Unary(Prefix::Data(op), a) => {
             let side = Side::Operand(prefix_token(Prefix::Data(*op)).text());
-            clash_with(spot, side, kind_of_unary(*op), a)
+            clash_with(spot, side, kind_of_unary(*op), a, 0)
         }
         Expr::Binary(Infix::Data(op), a, b) => match asked_kind(*op) {
             Some(asked) => {
                 let side = Side::Operand(infix_token(Infix::Data(*op)).text());
-                match clash_with(spot, side, asked, a) {
-                    None => clash_with(spot, side, asked, b),
+                match clash_with(spot, side, asked, a, 0) {
+                    None => clash_with(spot, side, asked, b, 1),
                     found => found,
                 }
             }
-            None => clash_of_two(spot, a, b),
+            None => clash_of_two(spot, a, b, 1),
         },
-        Expr::Binary(_, a, b) => clash_of_two(spot, a, b),
+        Expr::Binary(_, a, b) => clash_of_two(spot, a, b, 1),
         Expr::If(c, a, b) => {
-            match clash_with(spot, Side::Condition, Kind::Bool, c) {
-                None => clash_of_two(spot, a, b),
+            match clash_with(spot, Side::Condition, Kind::Bool, c, 0) {
+                None => clash_of_two(spot, a, b, 2),
                 found => found,
             }
         }
         Expr::Merge(_, _, branches) => {
             let (first, others) = branches.as_slice().split_first()?;
-            for other in others {
-                let found = clash_of_two(spot, first, other);
+            for (i, other) in others.iter().enumerate() {
+                let found = clash_of_two(spot, first, other, i.saturating_add(1));
                 if found.is_some() {
                     return found;
                 }
@@ -162,6 +168,7 @@ fn clash_of_variable<'a>(
     x: &'a Name,
     second: Side<'a>,
     found: Kind,
+    at: usize,
 ) -> Option<Clash<'a>> {
     let wanted = spot.scope.kind(x.as_str())?;
     if wanted == found {
@@ -173,16 +180,18 @@ fn clash_of_variable<'a>(
         wanted,
         second,
         found,
+        at,
     })
 }
 
 /// What doesn't agree between the sides of an equation.
 fn clash_of_sides<'a>(spot: &Spot<'_, 'a>) -> Option<Clash<'a>> {
     let left = spot.equation.left.as_slice();
+    let at = right_start(left);
     if let Expr::Call(f, _) = &spot.equation.right {
         for (x, output) in left.iter().zip(called(spot, f)?.outputs.as_slice()) {
             let side = Side::Output(output, f);
-            let found = clash_of_variable(spot, x, side, output.kind);
+            let found = clash_of_variable(spot, x, side, output.kind, at);
             if found.is_some() {
                 return found;
             }
@@ -190,18 +199,26 @@ fn clash_of_sides<'a>(spot: &Spot<'_, 'a>) -> Option<Clash<'a>> {
         return None;
     }
     let kind = kind_of(spot, &spot.equation.right)?;
-    clash_of_variable(spot, left.first()?, Side::Right, kind)
+    clash_of_variable(spot, left.first()?, Side::Right, kind, at)
 }
 
 /// What doesn't agree in an equation: first in its right side, then between its sides.
 fn clash_in<'a>(spot: &Spot<'_, 'a>) -> Option<Clash<'a>> {
-    for e in spot.parts {
-        let found = clash_at(spot, *e);
-        if found.is_some() {
-            return found;
+    for (i, e) in spot.parts.iter().enumerate() {
+        if let Some(found) = clash_at(spot, *e) {
+            let at = operand_start(*e, start_of_part(spot, i), found.at);
+            return Some(Clash { at, ..found });
         }
     }
     clash_of_sides(spot)
+}
+
+/// The token that is at fault where types don't agree.
+pub(crate) fn clash_token(spot: &Spot) -> usize {
+    match clash_in(spot) {
+        Some(clash) => clash.at,
+        None => 0,
+    }
 }
 
 /// `E13`

@@ -1,9 +1,11 @@
 -- Faults as they are told, one more.
-use Rattle.std.proofs.Common.{◌≡◌, ◌≢◌, ℕ, ◌+◌, true, false, List, [], ◌∷◌, ◌++◌, take, Some, sym, subst, ap, ◌∙◌, append_assoc}
+use Rattle.std.proofs.Common.{◌≡◌, ◌≢◌, ℕ, ◌+◌, true, false, List, [], ◌∷◌, ◌++◌, take, Some, sym, subst, ap, ◌∙◌, append_assoc, inl, inr}
 use Rattle.std.specs.Prelude.{slice_get, ◌==◌, length}
 use Rattle.std.proofs.lemmas.List.{take_more}
 use Rattle.std.proofs.lemmas.Option.{slice_get_within, get_or_from_slice_get}
 use Rattle.lustat_rules.specs.declared.error.StatError.{StatError}
+use Rattle.luexplain.specs.declared.refused.SyntaxRefusal.{SyntaxRefusal}
+use Rattle.luexplain.specs.Refusals.{AreAllRefusals, AreRefusals}
 use Rattle.lusdist_shell.specs.declared.request.Request.{Request}
 use Rattle.lusdist_shell.specs.Files.{FileFacts}
 use Rattle.lusdist_call.specs.declared.call_error.CallError.{CallError}
@@ -26,6 +28,13 @@ one_more gives request faults j fault stop old mid new there is (told, before, e
 pub not_empty : (xs : List StatError) → (length xs == 0) ≡ false → xs ≢ []
 not_empty [] h = absurd (let clash : true ≡ false = h in cc)
 not_empty (x ∷ xs) h = λ e. cc
+
+-- refusals that are some are those of a text that is no program
+pub some_refusals : (path text : List ℕ) (found : List SyntaxRefusal) → (length found == 0) ≡ false → AreAllRefusals path text found → AreRefusals path text found
+some_refusals path text found some all = elim all [
+  | inl none ↦ absurd (let clash : (0 == 0) ≡ false = subst (λ n. (n == 0) ≡ false) none.none some in cc)
+  | inr are ↦ are
+]
 
 -- pieces behind a text, one by one
 then : (t mid new a b : List ℕ) → new ≡ mid ++ b → mid ≡ t ++ a → new ≡ t ++ (a ++ b)

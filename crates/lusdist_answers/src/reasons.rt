@@ -1,19 +1,21 @@
 //! Why a text is refused.
 
-ghost use Rattle.std.specs.Prelude.{◌≡◌, IfOk};
-ghost use Rattle.lusdist_call.specs.Reasons.{program_path, place_path, table_path, schedule_path, blamed_path, main_name, AreFaultsAt, IsReason};
+ghost use Rattle.std.specs.Prelude.{◌≡◌, List, ℕ, IfOk};
+ghost use Rattle.lusdist_call.specs.Reasons.{program_path, place_path, table_path, schedule_path, blamed_path, main_name, AreFaultsAt, AreRefusalsAt, IsReason};
 ghost use Rattle.lusdist_call.specs.declared.call_error.CallError.TheVariants as stops;
 ghost use Rattle.lucore.specs.declared.error.CoreError.TheVariants as flats;
 
 use crate::sources::program_of;
+use lubase::Name;
 use lucore::CoreError;
 use luexplain::{
-    Explanation, of_cycle, of_fault, of_place, of_rule, of_schedule, of_size, of_syntax, of_table,
+    Explanation, SyntaxRefusal, all_refusals, of_cycle, of_fault, of_place, of_rule, of_schedule,
+    of_size, of_syntax, of_table, of_unread,
 };
 use luflow::FaultKind;
 use luplace_file::PlaceError;
 use lusdist_call::{CallError, read};
-use lusdist_shell::{Files, Request, ScheduleError};
+use lusdist_shell::{Files, ReadError, Request, ScheduleError};
 use lustat::all_faults;
 use lustat_rules::StatError;
 use lusyn::SynError;
@@ -74,6 +76,17 @@ fn of_text<F: Files>(
 {
     let text = read(alloc, files, path)?;
     Ok(of_syntax(alloc, path, &text, error)?)
+}
+
+/// Why a file can't be read.
+fn of_file<F: Files>(alloc: Global, files: &F, path: &Name) -> Result<Explanation, CallError>
+    ensures { IfOk result (λ reason. (at : List ℕ) → IsReason (F.gives files.now) at
+        (stops.CannotRead path.now) reason) }
+{
+    match files.read(alloc, path.as_str()) {
+        Err(ReadError::CannotRead(why)) => Ok(of_unread(alloc, path.as_str(), why)?),
+        _ => Err(CallError::OutOfMemory),
+    }
 }
 
 /// Why a program's file isn't even text.
@@ -200,6 +213,7 @@ pub fn reason<F: Files>(
 {
     let asked = asked_in(request);
     match stop {
+        CallError::CannotRead { path } => of_file(alloc, files, path),
         CallError::NotAscii => of_bytes(alloc, files, asked.program),
         CallError::Syntax(e) => of_text(alloc, files, asked.program, e),
         CallError::Rules(e) => of_rules(alloc, files, asked.program, asked.main, e),
@@ -242,4 +256,23 @@ pub fn faults_of<F: Files>(
         return Err(CallError::OutOfMemory);
     }
     Ok(faults)
+}
+
+/// All refusals of the text that a request names, which is no program. It is read once more. An error where its file can't be read again or is
+/// a program now, or where memory runs out.
+pub fn refusals_of<F: Files>(
+    alloc: Global,
+    files: &F,
+    request: Request<'_>,
+) -> Result<Vec<SyntaxRefusal>, CallError>
+    ensures { IfOk result (λ found. AreRefusalsAt (F.gives files.now) (program_path request.entry)
+        found.items) }
+{
+    let asked = asked_in(request);
+    let text = read(alloc, files, asked.program)?;
+    let refusals = all_refusals(alloc, asked.program, &text)?;
+    if refusals.is_empty() {
+        return Err(CallError::OutOfMemory);
+    }
+    Ok(refusals)
 }

@@ -1,16 +1,17 @@
 //! What is told of a refusal on the error stream.
 
-ghost use Rattle.std.specs.Prelude.{◌≡◌, ◌<◌, ◌≤◌, ◌++◌, List, ℕ, Some, codes, length, slice_get, IfOk, IfSome};
+ghost use Rattle.std.specs.Prelude.{◌≡◌, ◌<◌, ◌≤◌, ◌++◌, List, ℕ, Some, codes, length, slice_get, string_bytes, IfOk, IfSome};
 ghost use Rattle.lustat_rules.specs.declared.error.StatError.{StatError};
 ghost use Rattle.luexplain.specs.declared.said.Explanation.{Explanation as AnyExplanation};
 ghost use Rattle.lusdist_call.specs.Lines.{line_of, is_inside_word, named};
-ghost use Rattle.lusdist_call.specs.Reasons.{asks_all, asks_short, asks_why, blamed_path, count_text, explained_text, main_name, program_path, short_text, AreFaultsAt, AreTold, HasRefusal, IsReason, IsRefusalText, IsTold};
+ghost use Rattle.luexplain.specs.declared.refused.SyntaxRefusal.{SyntaxRefusal as AnyRefusal};
+ghost use Rattle.lusdist_call.specs.Reasons.{all_told, asks_all, asks_all_places, asks_short, asks_why, blamed_path, count_text, explained_line, explained_text, main_name, program_path, short_line, short_text, told_of, AreFaultsAt, AreRefusalsAt, AreTold, HasRefusal, IsReason, IsRefusalText, IsTold};
 ghost use Rattle.lusdist_call.specs.Statuses.{status_of};
 ghost use Rattle.lusdist_call.specs.declared.call_error.CallError.TheVariants as stops;
 ghost use Rattle.std.specs.List.{prefix_len};
 
-use crate::reasons::{faults_of, reason};
-use luexplain::Explanation;
+use crate::reasons::{faults_of, reason, refusals_of};
+use luexplain::{Explanation, SyntaxRefusal};
 use lusdist_call::CallError;
 use lusdist_shell::{Files, Request, Sink};
 use lustat_rules::StatError;
@@ -56,6 +57,16 @@ fn asks_all(request: Request<'_>, stop: &CallError) -> bool
     }
 }
 
+/// Whether a request asks for all refusals of a text that is no program.
+fn asks_all_places(request: Request<'_>, stop: &CallError) -> bool
+    ensures { result ≡ asks_all_places request.entry stop.now }
+{
+    match (request, stop) {
+        (Request::Check(asked), CallError::Syntax(_) | CallError::NotAscii) => asked.all,
+        _ => false,
+    }
+}
+
 /// The length of the word that bytes begin with.
 fn word_len(bytes: &[u8]) -> usize
     ensures length { result ≡ prefix_len is_inside_word bytes.now }
@@ -76,18 +87,10 @@ fn named(line: &[u8]) -> &[u8]
     &line[..first + 1 + second]
 }
 
-/// Adds a refusal in one line, with its place.
-fn put_short(
-    text: &mut Vec<u8>,
-    stop: &CallError,
-    line: &str,
-    reason: &Explanation,
-) -> Result<(), AllocError>
-    requires line { line.now ≡ line_of stop.now }
-    ensures { IfOk result (λ _. text.new.items
-        ≡ text.old.items ++ short_text stop.now reason.now) }
+/// Adds a refusal of this line in one line, with its place.
+fn put_short(text: &mut Vec<u8>, line: &str, reason: &Explanation) -> Result<(), AllocError>
+    ensures { IfOk result (λ _. text.new.items ≡ text.old.items ++ short_line line.now reason.now) }
 {
-    let _ = stop;
     text.extend_from_slice(reason.head())?;
     text.extend_from_slice(b": ")?;
     text.extend_from_slice(named(line.as_bytes()))?;
@@ -97,18 +100,11 @@ fn put_short(
     Ok(())
 }
 
-/// Adds a refusal, and behind its line where it stands, what is wrong there, and how to mend it.
-fn put_explained(
-    text: &mut Vec<u8>,
-    stop: &CallError,
-    line: &str,
-    reason: &Explanation,
-) -> Result<(), AllocError>
-    requires line { line.now ≡ line_of stop.now }
+/// Adds the line of a refusal, and behind it where it stands, what is wrong there, and how to mend it.
+fn put_explained(text: &mut Vec<u8>, line: &str, reason: &Explanation) -> Result<(), AllocError>
     ensures { IfOk result (λ _. text.new.items
-        ≡ text.old.items ++ explained_text stop.now reason.now) }
+        ≡ text.old.items ++ explained_line line.now reason.now) }
 {
-    let _ = stop;
     text.extend_from_slice(line.as_bytes())?;
     text.extend_from_slice(b"\n")?;
     text.extend_from_slice(reason.place.as_bytes())?;
@@ -136,14 +132,19 @@ fn asked_reason<F: Files>(
 }
 
 /// Adds a refusal's line alone.
-fn put_alone(text: &mut Vec<u8>, stop: &CallError, line: &str) -> Result<(), AllocError>
-    requires line { line.now ≡ line_of stop.now }
-    ensures { IfOk result (λ _. text.new.items ≡ text.old.items ++ (line_of stop.now ++ codes "\n")) }
+fn put_alone(text: &mut Vec<u8>, line: &str) -> Result<(), AllocError>
+    ensures { IfOk result (λ _. text.new.items ≡ text.old.items ++ (line.now ++ codes "\n")) }
 {
-    let _ = stop;
     text.extend_from_slice(line.as_bytes())?;
     text.extend_from_slice(b"\n")?;
     Ok(())
+}
+
+/// The line of a stop.
+fn line_of(alloc: Global, stop: &CallError) -> Result<String, AllocError>
+    ensures { IfOk result (λ line. string_bytes line ≡ line_of stop.now) }
+{
+    format!(in alloc; "{stop}")
 }
 
 /// Adds a refusal as it is told.
@@ -157,17 +158,17 @@ fn put_told<F: Files>(
     ensures { IfOk result (λ _. (told : List ℕ) × IsTold (F.gives files.now) request.entry stop.now told
         × (text.new.items ≡ text.old.items ++ told)) }
 {
-    let line = format!(in alloc; "{stop}")?;
+    let line = line_of(alloc, stop)?;
     if asks_short(request) {
         if let Some(reason) = asked_reason(alloc, files, request, stop) {
-            return put_short(text, stop, line.as_str(), &reason);
+            return put_short(text, line.as_str(), &reason);
         }
     } else if asks_why(request) {
         if let Some(reason) = asked_reason(alloc, files, request, stop) {
-            return put_explained(text, stop, line.as_str(), &reason);
+            return put_explained(text, line.as_str(), &reason);
         }
     }
-    put_alone(text, stop, line.as_str())
+    put_alone(text, line.as_str())
 }
 
 /// The fault of this number, as a stop.
@@ -223,6 +224,59 @@ fn all_text<F: Files>(alloc: Global, files: &F, request: Request<'_>) -> Result<
     Ok(text)
 }
 
+/// Adds a refusal of a text that is no program as it is told.
+fn put_place(
+    alloc: Global,
+    text: &mut Vec<u8>,
+    request: Request<'_>,
+    refusal: &SyntaxRefusal,
+) -> Result<(), AllocError>
+    ensures { IfOk result (λ _. text.new.items
+        ≡ text.old.items ++ told_of request.entry refusal.now) }
+{
+    let line = format!(in alloc; "{}", refusal.error)?;
+    if asks_short(request) {
+        return put_short(text, line.as_str(), &refusal.reason);
+    }
+    if asks_why(request) {
+        return put_explained(text, line.as_str(), &refusal.reason);
+    }
+    put_alone(text, line.as_str())
+}
+
+/// Adds refusals of a text that is no program as they are told.
+fn put_places(
+    alloc: Global,
+    text: &mut Vec<u8>,
+    request: Request<'_>,
+    refusals: &[SyntaxRefusal],
+) -> Result<(), AllocError>
+    ensures { IfOk result (λ _. text.new.items
+        ≡ text.old.items ++ all_told request.entry refusals.now) }
+{
+    for refusal in refusals {
+        put_place(alloc, text, request, refusal)?;
+    }
+    Ok(())
+}
+
+/// All refusals of the text that a request names, which is no program, as they are told, and how many there are.
+fn places_text<F: Files>(
+    alloc: Global,
+    files: &F,
+    request: Request<'_>,
+) -> Result<Vec<u8>, CallError>
+    ensures { IfOk result (λ text. (found : List AnyRefusal)
+        × AreRefusalsAt (F.gives files.now) (program_path request.entry) found
+        × (text.items ≡ all_told request.entry found ++ count_text (length found))) }
+{
+    let refusals = refusals_of(alloc, files, request)?;
+    let mut text = Vec::new(alloc);
+    put_places(alloc, &mut text, request, &refusals)?;
+    put_count(alloc, &mut text, refusals.len())?;
+    Ok(text)
+}
+
 /// A refusal as it is told.
 fn one_text<F: Files>(
     alloc: Global,
@@ -268,6 +322,13 @@ pub fn put_refusal<F: Files, V: Write>(
     let status = stop.status();
     if asks_all(request, &stop) {
         match all_text(alloc, files, request) {
+            Ok(text) => err.put(&text),
+            Err(_) => err.put_line(Cut { stop }),
+        }
+        return status;
+    }
+    if asks_all_places(request, &stop) {
+        match places_text(alloc, files, request) {
             Ok(text) => err.put(&text),
             Err(_) => err.put_line(Cut { stop }),
         }

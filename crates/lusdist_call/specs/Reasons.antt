@@ -1,7 +1,8 @@
 -- What is told of a refusal: its line, and, where the words ask for it, the place in the text that is refused,
 -- what is wrong there, and how to mend it; or all faults.
-use Rattle.std.specs.Prelude.{◌≡◌, ◌⊎◌, ℕ, true, Bool, false, List, [], ◌∷◌, ◌++◌, codes, Option, Some}
+use Rattle.std.specs.Prelude.{◌≡◌, ◌⊎◌, ℕ, true, Bool, false, List, [], ◌∷◌, ◌++◌, codes, Option, None, Some}
 use Rattle.std.specs.Prelude.{length, nat_eq, if◌then◌else◌, string_bytes}
+use Rattle.std.specs.List.{flat_map}
 use Rattle.std.specs.Fmt.{decimal}
 use Rattle.lutree.specs.declared.program.Program.{Program}
 use Rattle.lutree.specs.Places.{places_view}
@@ -9,8 +10,10 @@ use Rattle.lutree.specs.Tree.{program_view}
 use Rattle.lustat_rules.specs.declared.error.StatError.{StatError}
 use Rattle.lustat.specs.AllFaults.{AreOfFirstStage}
 use Rattle.luexplain.specs.declared.said.Explanation.{Explanation}
+use Rattle.luexplain.specs.declared.refused.SyntaxRefusal.{SyntaxRefusal}
+use Rattle.luexplain.specs.Refusals.{AreRefusals}
 use Rattle.luexplain.specs.Place.{line_behind, place}
-use Rattle.luexplain.specs.Explanations.{place_of_rule, whole}
+use Rattle.luexplain.specs.Explanations.{whole, IsRulePlace}
 use Rattle.luexplain.specs.Syntax.{place_of_syntax}
 use Rattle.luexplain.specs.Texts.{place_of_schedule}
 use Rattle.lusyn.specs.declared.error.SynError.TheVariants as texts
@@ -22,8 +25,8 @@ use Rattle.lusdist_shell.specs.declared.sink.Sink.{Sink}
 use Rattle.lusdist_shell.specs.Sinks.{HasPut}
 use Rattle.lusdist_call.specs.Lines.{line_of, named}
 use Rattle.lusdist_call.specs.declared.call_error.CallError.{CallError}
-use Rattle.lusdist_call.specs.declared.call_error.CallError.TheVariants.{NotAscii, Syntax, Rules, Place}
-use Rattle.lusdist_call.specs.declared.call_error.CallError.TheVariants.{Table, Schedule}
+use Rattle.lusdist_call.specs.declared.call_error.CallError.TheVariants.{CannotRead, NotAscii, Syntax, Rules}
+use Rattle.lusdist_call.specs.declared.call_error.CallError.TheVariants.{Place, Table, Schedule}
 use Rattle.lusdist_shell.specs.Files.{FileFacts}
 
 -- whether a request asks why a text is refused
@@ -48,6 +51,12 @@ asks_short (Explain request) = false
 abbrev pub asks_all : Request → CallError → Bool
 asks_all (Check request) (Rules e) = request.all
 asks_all _ _ = false
+
+-- whether it asks for all refusals of a text that is no program
+abbrev pub asks_all_places : Request → CallError → Bool
+asks_all_places (Check request) (Syntax e) = request.all
+asks_all_places (Check request) NotAscii = request.all
+asks_all_places _ _ = false
 
 -- FILES
 
@@ -94,34 +103,48 @@ blamed_path request _ = program_path request
 
 -- PLACES
 
--- Where a stop stands in the text of this path: of a refused program and of a refused schedule exactly at the
--- byte that the line reports; else at some byte, or in the whole.
+-- Where a stop stands in the text of this path: of a refused text and of a refused schedule exactly at the
+-- byte that the line reports; of a rule that an equation breaks at that byte or behind it in the equation; else at
+-- some byte, or in the whole; of a file that can't be read it is the path of that file.
 abbrev pub StandsAt : List ℕ → List ℕ → CallError → List ℕ → Type 0
 StandsAt path text NotAscii at = at ≡ place_of_syntax path text texts.NotAscii
 StandsAt path text (Syntax e) at = at ≡ place_of_syntax path text e
-StandsAt path text (Rules e) at = at ≡ place_of_rule path text e
+StandsAt path text (Rules e) at = IsRulePlace path text e at
 StandsAt path text (Schedule e) at = at ≡ place_of_schedule path text e
+StandsAt path text (CannotRead name) at = at ≡ whole name
 StandsAt path text _ at = ((byte : ℕ) × (at ≡ place path text byte)) ⊎ (at ≡ whole path)
+
+-- what the file of a path gave: a text; nothing, where it is the file that can't be read
+abbrev pub IsGivenFor : FileFacts → List ℕ → CallError → List ℕ → Type 0
+IsGivenFor gives path (CannotRead name) text = gives name None
+IsGivenFor gives path _ text = gives path (Some text)
 
 -- The reason of a stop, by what the file of the path gave.
 pub record IsReason (gives : FileFacts) (path : List ℕ) (stop : CallError) (reason : Explanation) : Type 0 where
   pub text : List ℕ
-  pub given : gives path (Some text)
+  pub given : IsGivenFor gives path stop text
   pub stands : StandsAt path text stop (string_bytes reason.place)
 
 -- ONE REFUSAL
 
 -- its line, and behind it a place, a line of what is wrong, and a line of how to mend it
-abbrev pub explained_text : CallError → Explanation → List ℕ
-explained_text stop reason =
-    line_of stop ++ codes "\n" ++ string_bytes reason.place ++ string_bytes reason.what ++ codes "\n"
+abbrev pub explained_line : List ℕ → Explanation → List ℕ
+explained_line line reason =
+    line ++ codes "\n" ++ string_bytes reason.place ++ string_bytes reason.what ++ codes "\n"
     ++ string_bytes reason.mend ++ codes "\n"
 
 -- one line as compilers report: `PATH:LINE:COLUMN: CODE NAME: what is wrong`
-abbrev pub short_text : CallError → Explanation → List ℕ
-short_text stop reason =
-    line_behind (string_bytes reason.place) ++ codes ": " ++ named (line_of stop) ++ codes ": "
+abbrev pub short_line : List ℕ → Explanation → List ℕ
+short_line line reason =
+    line_behind (string_bytes reason.place) ++ codes ": " ++ named line ++ codes ": "
     ++ string_bytes reason.what ++ codes "\n"
+
+-- the same of a stop
+abbrev pub explained_text : CallError → Explanation → List ℕ
+explained_text stop = explained_line (line_of stop)
+
+abbrev pub short_text : CallError → Explanation → List ℕ
+short_text stop = short_line (line_of stop)
 
 -- A refusal as it is told: in one line with its place where that is asked for; else with its reason behind its
 -- line, where that is asked for. Or its line alone, as where nothing is asked for, no text is to blame, its
@@ -153,21 +176,45 @@ pub data AreTold (gives : FileFacts) (request : Request) : List StatError → Li
       → IsTold gives request (Rules fault) one
       → AreTold gives request (before ++ fault ∷ []) (told ++ one)
 
+-- ALL REFUSALS OF A TEXT THAT IS NO PROGRAM
+
+-- all refusals that are told of the bytes of the path's file, which are no program
+pub record AreRefusalsAt (gives : FileFacts) (path : List ℕ) (found : List SyntaxRefusal) : Type 0 where
+  pub bytes : List ℕ
+  pub given : gives path (Some bytes)
+  pub are : AreRefusals path bytes found
+
+-- one as it is told: as the refusal of a whole text, with its reason
+abbrev pub told_of : Request → SyntaxRefusal → List ℕ
+told_of request r =
+    if asks_short request then short_text (Syntax r.error) r.reason
+    else (if asks_why request then explained_text (Syntax r.error) r.reason
+    else line_of (Syntax r.error) ++ codes "\n")
+
+-- refusals as they are told, one behind the other
+abbrev pub all_told : Request → List SyntaxRefusal → List ℕ
+all_told request = flat_map (told_of request)
+
 -- how many there are
 abbrev pub count_text : ℕ → List ℕ
 count_text n = decimal n ++ (if nat_eq n 1 then codes " fault\n" else codes " faults\n")
 
--- What is told of a stop: of a rule that is broken, where a check is asked for all faults, each of them and how
--- many there are, or, where memory runs out for that, the first and that it did; else the stop alone.
+-- What is told of a stop: of a rule that is broken, and of a text that is no program, where a check is asked
+-- for all faults, each of them and how many there are, or, where memory runs out for that, the first and that
+-- it did; else the stop alone.
 pub data IsRefusalText (gives : FileFacts) (request : Request) (stop : CallError)
     (text : List ℕ) : Type 0 where
-  one : asks_all request stop ≡ false → IsTold gives request stop text → IsRefusalText gives request stop text
+  one : asks_all request stop ≡ false → asks_all_places request stop ≡ false → IsTold gives request stop text
+      → IsRefusalText gives request stop text
   each : (faults : List StatError) (told : List ℕ) → asks_all request stop ≡ true
       → AreFaultsAt gives (program_path request) (main_name request) faults
       → AreTold gives request faults told → text ≡ told ++ count_text (length faults)
       → IsRefusalText gives request stop text
-  cut : asks_all request stop ≡ true → text ≡ line_of stop ++ codes "\nR2 OutOfMemory\n"
-      → IsRefusalText gives request stop text
+  places : (found : List SyntaxRefusal) → asks_all_places request stop ≡ true
+      → AreRefusalsAt gives (program_path request) found
+      → text ≡ all_told request found ++ count_text (length found) → IsRefusalText gives request stop text
+  cut : (asks_all request stop ≡ true) ⊎ (asks_all_places request stop ≡ true)
+      → text ≡ line_of stop ++ codes "\nR2 OutOfMemory\n" → IsRefusalText gives request stop text
 
 -- the error stream has what is told of a stop more
 pub record HasRefusal {V : Type 0} (gives : FileFacts) (request : Request) (stop : CallError)

@@ -28,7 +28,7 @@ pub fn read<F: Files>(alloc: Global, files: &F, path: &str) -> Result<Vec<u8>, C
     match files.read(alloc, path) {
         Ok(bytes) => Ok(bytes),
         Err(ReadError::OutOfMemory) => Err(CallError::OutOfMemory),
-        Err(ReadError::CannotRead) => Err(unread(alloc, path)),
+        Err(ReadError::CannotRead(_)) => Err(unread(alloc, path)),
     }
 }
 

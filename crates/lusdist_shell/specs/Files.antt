@@ -9,5 +9,5 @@ FileFacts = List ℕ → Option (List ℕ) → Type 0
 
 -- the path gives none; or memory ran out, which says nothing of the file
 abbrev pub IsMissed : (Option (List ℕ) → Type 0) → ReadError → Type 0
-IsMissed gives CannotRead = gives None
+IsMissed gives (CannotRead why) = gives None
 IsMissed gives OutOfMemory = Unit {0}

@@ -7,11 +7,24 @@ use std::alloc::Global;
 use std::io::ErrorKind;
 use std::{fs, rt};
 
+/// Why a file can't be read, as far as the system tells.
+#[derive(Clone, Copy, Debug, PartialEq, Eq)]
+pub enum ReadFault {
+    /// There is none at the path.
+    Missing,
+    /// A folder is there.
+    Folder,
+    /// The system doesn't allow it.
+    Forbidden,
+    /// For another reason.
+    Other,
+}
+
 /// Why a file gave no bytes.
 #[derive(Clone, Copy, Debug, PartialEq, Eq)]
 pub enum ReadError {
     /// There is no such file, or it can't be read.
-    CannotRead,
+    CannotRead(ReadFault),
     /// Memory ran out, which says nothing of the file.
     OutOfMemory,
 }
@@ -26,6 +39,16 @@ pub trait Files {
     fn read(&self, alloc: Global, path: &str) -> Result<Vec<u8>, ReadError>
         ensures given { IfOk result (λ bytes. gives self.now path.now (Some bytes.items)) }
         ensures missed { IfErr result (IsMissed (gives self.now path.now)) };
+}
+
+/// Why the system read no file.
+fn fault_of(kind: ErrorKind) -> ReadFault {
+    match kind {
+        ErrorKind::NotFound | ErrorKind::NotADirectory => ReadFault::Missing,
+        ErrorKind::IsADirectory => ReadFault::Folder,
+        ErrorKind::PermissionDenied => ReadFault::Forbidden,
+        _ => ReadFault::Other,
+    }
 }
 
 /// The files of the system.
@@ -51,7 +74,7 @@ impl<R: rt::Files + AllocGlobal> Files for RealFiles<'_, R> {
                 if e.kind() == ErrorKind::OutOfMemory {
                     Err(ReadError::OutOfMemory)
                 } else {
-                    Err(ReadError::CannotRead)
+                    Err(ReadError::CannotRead(fault_of(e.kind())))
                 }
             }
         }

@@ -48,7 +48,7 @@ mod words;
 
 pub use asked::{all_codes, page_of};
 pub use dumps::{Dump, Dumps, RealDumps, WriteError};
-pub use files::{Files, ReadError, RealFiles};
+pub use files::{Files, ReadError, ReadFault, RealFiles};
 pub use progress::{Meter, Progress, Silent};
 pub use put::{put_mistake, put_notes, put_out, put_unread};
 pub use request::{

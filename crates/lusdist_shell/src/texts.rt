@@ -37,7 +37,8 @@ Coming from Lustre V4, V6 or SCADE
 
 A program of another dialect, or of C, is mostly refused at the first sign or
 word that is written in another way here, and `--explain` says how where it
-stands. What is written there, and what is written here:
+stands. `check --all --explain` tells all such places at once. What is written
+there, and what is written here:
 
     there                             here
     `(* .. *)`, `/* .. */`, `//`      `--` to the end of the line

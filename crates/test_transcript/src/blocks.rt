@@ -1,5 +1,5 @@
-//! Sites that work in blocks of instants: those of a whole job, or one of them over links whose other ends a thread of the line's own
-//! holds.
+//! Sites that work in blocks of instants, or once an instant: those of a whole job, or one that works in blocks over links whose other ends
+//! a thread of the line's own holds.
 
 ghost use Rattle.std.specs.Prelude.{◌≡◌, ◌<◌, ℕ, IfOk, Some, slice_get};
 ghost use Rattle.luworld.specs.Needs.{sites_of};
@@ -15,7 +15,7 @@ use lublock_site::flats::flat_copy;
 use lulink::{Msg, Rx, Tx, open_link};
 use luplace::Job;
 use lurun::Gate;
-use lurun_rows::{RowReport, RowStation, Went, row_stations, run_rows};
+use lurun_rows::{RowReport, RowStation, Went, list_stations, row_stations, run_rows};
 use std::alloc::{AllocError, Global};
 use std::rt::Clock;
 use std::sync::atomic::{AtomicU64, Ordering};
@@ -70,7 +70,12 @@ fn put_crew<R: Threads + Wait + Clock + Sync>(
     line: &str,
 ) -> io::Result<()> {
     let part = word(line, 5);
-    let Some(mut stations) = row_stations(rt.alloc(), job)? else {
+    let made = if word(line, 0) == "lists" {
+        list_stations(rt.alloc(), job)?
+    } else {
+        row_stations(rt.alloc(), job)?
+    };
+    let Some(mut stations) = made else {
         return println!(rt; "= item by item");
     };
     if part == "first" || part == "none" {
@@ -318,7 +323,7 @@ fn put_receiver<R: Threads + Wait + Sync>(
     )
 }
 
-/// Runs the sites of a job that a line asks for in blocks, and writes what comes of them.
+/// Runs the sites of a job that a line asks for in blocks or once an instant, and writes what comes of them.
 pub fn put_rows<R: Threads + Wait + Clock + Sync>(
     threads: &R,
     rt: &HostRuntime,

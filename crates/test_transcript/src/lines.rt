@@ -37,7 +37,7 @@ fn put_of_job<R: Threads + Wait + Clock + Sync>(
         "collect" => put_outputs(rt, job, collect(rt.alloc(), Vec::new(rt.alloc()))),
         "drive" => put_driven(threads, rt, job, line),
         "left" => put_left(rt, job, line),
-        "rows" => put_rows(threads, rt, job, line),
+        "rows" | "lists" => put_rows(threads, rt, job, line),
         _ => put_run(threads, rt, job, line),
     }
 }

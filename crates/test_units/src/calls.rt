@@ -1,7 +1,9 @@
 //! Words that can't be read, errors that can't be written, the line of refused memory, and real files.
 
 use luplace_file::PlaceError;
-use lusdist_shell::{Files, ReadError, RealFiles, ScheduleError, Sink, put_out, put_unread};
+use lusdist_shell::{
+    Files, ReadError, ReadFault, RealFiles, ScheduleError, Sink, put_out, put_unread,
+};
 use lustat_rules::StatError;
 use lusyn_grammar::LexError;
 use lutab::TabError;
@@ -74,13 +76,20 @@ fn has(files: &impl Files, alloc: Global, path: &str, want: Result<&[u8], ReadEr
 fn real_files(rt: HostRuntime) {
     let real = RealFiles::new(&rt);
     assert!(rt; has(&real, rt.alloc(), "/dev/null", Ok(b"")));
-    assert!(rt; has(&real, rt.alloc(), "/", Err(ReadError::CannotRead)));
+    assert!(rt;
+        has(
+            &real,
+            rt.alloc(),
+            "/",
+            Err(ReadError::CannotRead(ReadFault::Folder))
+        )
+    );
     assert!(rt;
         has(
             &real,
             rt.alloc(),
             "no/such/file",
-            Err(ReadError::CannotRead)
+            Err(ReadError::CannotRead(ReadFault::Missing))
         )
     );
 }
