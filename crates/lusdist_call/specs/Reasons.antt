@@ -104,8 +104,8 @@ blamed_path request _ = program_path request
 -- PLACES
 
 -- Where a stop stands in the text of this path: of a refused text and of a refused schedule exactly at the
--- byte that the line reports; of a rule that an equation breaks at that byte or behind it in the equation; else at
--- some byte, or in the whole; of a file that can't be read it is the path of that file.
+-- byte that the line reports; of a rule that an equation breaks at that byte or behind it in the equation; else
+-- at some byte, or in the whole; of a file that can't be read it is the path of that file.
 abbrev pub StandsAt : List ℕ → List ℕ → CallError → List ℕ → Type 0
 StandsAt path text NotAscii at = at ≡ place_of_syntax path text texts.NotAscii
 StandsAt path text (Syntax e) at = at ≡ place_of_syntax path text e
