@@ -17,7 +17,7 @@ _lusdist() {
             esac
             ;;
         eval)
-            flags='--main --explain --short --all --chronogram --from --to --vcd --help'
+            flags='--main --explain --short --all --text --chronogram --from --to --vcd --help'
             endings=(lus csv)
             case $before in
                 --main) COMPREPLY=(); return ;;
@@ -34,7 +34,7 @@ _lusdist() {
             esac
             ;;
         replay)
-            flags='--main --explain --short --finish --trace --chart --vcd --help'
+            flags='--main --explain --short --finish --trace --chart --messages --blocked --vcd --help'
             endings=(lus toml csv '')
             case $before in
                 --main) COMPREPLY=(); return ;;

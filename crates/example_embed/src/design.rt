@@ -41,4 +41,5 @@ pub(crate) const OUTPUTS: EvalRequest<'static> = EvalRequest {
     from: None,
     to: None,
     vcd: None,
+    aligned: false,
 };

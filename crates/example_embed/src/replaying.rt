@@ -48,6 +48,8 @@ fn asked() -> ReplayRequest<'static>
         finish: true,
         turns: TurnsForm::Nothing,
         vcd: None,
+        messages: false,
+        blocked: false,
     }
 }
 

@@ -76,8 +76,8 @@ pub(crate) fn arity_token(spot: &Spot) -> usize {
 pub(crate) fn merge_token(spot: &Spot) -> usize {
     for (i, e) in spot.parts.iter().enumerate() {
         if let Expr::Merge(x, patterns, _) = *e {
-            if let Some(Kind::Enum(place, _)) = spot.scope.kind(x.as_str()) {
-                if let Some(declared) = type_at_place(spot.catalog.program(), place) {
+            if let Some(Kind::Enum(place, count)) = spot.scope.kind(x.as_str()) {
+                if let Some(declared) = type_at_place(spot.catalog.program(), place, count) {
                     if !are_names(patterns.as_slice(), declared.names.as_slice()) {
                         return start_of_part(spot, i);
                     }
@@ -177,8 +177,8 @@ fn said_of_merge<'a>(
 pub(crate) fn bad_merge(alloc: Global, spot: &Spot) -> Result<Said, AllocError> {
     for e in spot.parts {
         if let Expr::Merge(x, patterns, _) = *e {
-            if let Some(Kind::Enum(place, _)) = spot.scope.kind(x.as_str()) {
-                if let Some(declared) = type_at_place(spot.catalog.program(), place) {
+            if let Some(Kind::Enum(place, count)) = spot.scope.kind(x.as_str()) {
+                if let Some(declared) = type_at_place(spot.catalog.program(), place, count) {
                     let names = declared.names.as_slice();
                     if !are_names(patterns.as_slice(), names) {
                         return said_of_merge(alloc, x.as_str(), patterns.as_slice(), names);

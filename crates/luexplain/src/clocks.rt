@@ -2,7 +2,7 @@
 
 use crate::find::{Spot, role_at, start_of_part};
 use crate::said::{Said, say};
-use crate::sentences;
+use crate::sentences::{self, Wording};
 use crate::tokens::{operand_start, right_start};
 use crate::words::{ClockWording, Part};
 use lustat_rules::{ClockRef, PatternRef, Scope};
@@ -226,6 +226,14 @@ pub(crate) fn apart_token(spot: &Spot) -> usize {
     }
 }
 
+/// How two clocks are reported: of a variable and a right side that is on a clock, that the variable may be declared on it.
+fn wording_of(found: &Apart) -> Wording {
+    match (found.second, found.other) {
+        (Side::Right, ClockRef::On(_, _)) => sentences::SIDES_ON_TWO_CLOCKS,
+        _ => sentences::TWO_CLOCKS,
+    }
+}
+
 /// `E20`
 pub(crate) fn mismatch(alloc: Global, spot: &Spot) -> Result<Said, AllocError> {
     if let Some(x) = held_in(spot) {
@@ -234,7 +242,7 @@ pub(crate) fn mismatch(alloc: Global, spot: &Spot) -> Result<Said, AllocError> {
     match apart_in(spot) {
         Some(found) => say(
             alloc,
-            sentences::TWO_CLOCKS,
+            wording_of(&found),
             &[
                 side_part(found.first, found.on),
                 Part::Clock(found.on, ClockWording::Clock),

@@ -68,8 +68,8 @@ fn is_fraction(field: &[u8]) -> bool {
 }
 
 /// The names of the enumeration at a place; none where there is none.
-fn labels_at(program: &Program, place: u8) -> &[DeclaredName] {
-    match type_at_place(program, place) {
+fn labels_at(program: &Program, place: u8, count: u8) -> &[DeclaredName] {
+    match type_at_place(program, place, count) {
         Some(declared) => declared.names.as_slice(),
         None => &[],
     }
@@ -80,8 +80,8 @@ fn is_value(program: &Program, kind: Kind, field: &[u8]) -> bool {
     match kind {
         Kind::Int => is_int(field),
         Kind::Bool => is_truth(field),
-        Kind::Enum(place, _) => {
-            for label in labels_at(program, place) {
+        Kind::Enum(place, count) => {
+            for label in labels_at(program, place, count) {
                 if label.name.as_str().as_bytes() == field {
                     return true;
                 }
@@ -174,8 +174,8 @@ fn said_of_value<'a>(
     match kind {
         Kind::Int => say_at(alloc, byte, of_int(wrong.field), &[field, name, wanted]),
         Kind::Bool => say_at(alloc, byte, of_truth(wrong.field), &[field, name, wanted]),
-        Kind::Enum(place, _) => {
-            let labels = labels_at(program, place);
+        Kind::Enum(place, count) => {
+            let labels = labels_at(program, place, count);
             let near = Part::Near(near_label(labels, wrong.field));
             let parts = [field, name, wanted, near, Part::Labels(labels)];
             say_at(alloc, byte, table_sentences::NO_LABEL_OF_TYPE, &parts)

@@ -39,8 +39,11 @@ pub(crate) fn called<'a>(spot: &Spot<'_, 'a>, f: &Name) -> Option<&'a Node> {
     Some(spot.catalog.find(f.as_str())?.node())
 }
 
-/// The type at a place.
-pub(crate) fn type_at_place(program: &Program, place: u8) -> Option<&TypeDeclaration> {
+/// The enumeration at a place that has so many names; none of a type that isn't declared, which has 0.
+pub(crate) fn type_at_place(program: &Program, place: u8, count: u8) -> Option<&TypeDeclaration> {
+    if count == 0 {
+        return None;
+    }
     for (i, declared) in program.types.as_slice().iter().enumerate() {
         if i == usize::from(place) {
             return Some(declared);

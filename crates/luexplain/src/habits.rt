@@ -115,7 +115,7 @@ const TYPES: &str =
     "A type is an enumeration, as `type mode = enum { Idle, Busy };`; there are no others but `int` and `bool`.";
 
 const CONSTANTS: &str =
-    "There are no constants: write the number, or a node without inputs, as `node limit() returns (v: int); let v = 80; tel`.";
+    "There are no constants: write the number, or, behind all types, a node without inputs, as `node limit() returns (v: int); let v = 80; tel`.";
 
 const FUNCTIONS: &str = "Write `node`; a node that keeps no state is a function.";
 
@@ -136,7 +136,7 @@ const CASES: &str =
 const LAST: &str = "Write `pre x`, with a value for the first instant, as `0 -> pre x`.";
 
 const CURRENT: &str =
-    "`current` takes the name of a variable, without parentheses, as `current q`.";
+    "`current` takes the name of a variable, without parentheses, as `current q`; an expression gets a name first, as `q = x when c;`.";
 
 const WHEN: &str =
     "`when` takes a clock, `c`, `not c` or `A(x)`: give the condition a name first, as `c = x > 3;`.";

@@ -100,7 +100,7 @@ pub(crate) fn put_hold(text: &mut String, hold: &Hold) -> Result<(), AllocError>
     text.push_str(" = merge ")?;
     put_cut(text, hold.clock)?;
     match hold.clock_kind {
-        Kind::Enum(place, _) => match type_at_place(hold.program, place) {
+        Kind::Enum(place, count) => match type_at_place(hold.program, place, count) {
             Some(declared) => put_branches(text, hold, declared.names.as_slice()),
             None => Ok(()),
         },

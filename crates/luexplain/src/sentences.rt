@@ -139,7 +139,7 @@ pub(crate) const TYPE_MISMATCH: Wording = Wording {
     mend: "Give both sides one type.",
 };
 
-const TYPES_DIFFER: &str = "The types don't agree: @ is of type @, @ is of type @.";
+const TYPES_DIFFER: &str = "The types don't agree: @ is of @, @ is of @.";
 
 pub(crate) const TWO_TYPES: Wording = Wording {
     what: TYPES_DIFFER,
@@ -268,14 +268,21 @@ pub(crate) const CLOCK_MISMATCH: Wording = Wording {
     mend: ONE_CLOCK,
 };
 
+const CLOCKS_DIFFER: &str = "Two clocks are joined: @ is on @, @ is on @.";
+
 pub(crate) const TWO_CLOCKS: Wording = Wording {
-    what: "Two clocks are joined: @ is on @, @ is on @.",
+    what: CLOCKS_DIFFER,
     mend: ONE_CLOCK,
+};
+
+pub(crate) const SIDES_ON_TWO_CLOCKS: Wording = Wording {
+    what: CLOCKS_DIFFER,
+    mend: "Declare the variable on the clock of the right side, as `v: int when c`; or sample the faster by `when`, hold the slower by `current`, or join them by `merge`.",
 };
 
 pub(crate) const NOTHING_HELD: Wording = Wording {
     what: "`current` holds a variable that is on a clock, and @ is on the base clock.",
-    mend: "Leave out the `current`.",
+    mend: "Leave out the `current`, or declare the variable on a clock, as `v: int when c`.",
 };
 
 // E21 NotAClock
@@ -285,7 +292,7 @@ pub(crate) const NOT_A_CLOCK: Wording = Wording {
 };
 
 pub(crate) const OTHER_TYPE: Wording = Wording {
-    what: "@ is used here as a clock of type @, and is of type @.",
+    what: "@ is used here as a clock of @, and is of @.",
     mend: "Name a `bool`, or name a variable of an enumeration with one of its names, as `A(x)`.",
 };
 
@@ -344,7 +351,7 @@ pub(crate) const CURRENT_MAY_BE_NIL: Wording = Wording {
 
 pub(crate) const CLOCK_OF_INPUT: Wording = Wording {
     what: "@ is on @, which may be false at first: @ is an input.",
-    mend: "Hold it with a value to start with: `@`@. Or, where a first sample is meant, put it on a clock `k = @ -> @`.",
+    mend: "Hold it with a value to start with: `@`@. Or, where a first sample is meant, put it on a new clock, as `fresh = @ -> @`.",
 };
 
 pub(crate) const CLOCK_WITHOUT_START: Wording = Wording {

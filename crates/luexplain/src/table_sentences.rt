@@ -110,7 +110,7 @@ pub(crate) const NO_VALUE: Wording = Wording {
     mend: A_VALUE_FOR_EACH,
 };
 
-const NO_VALUE_OF_TYPE: &str = "@ in the column @ is no value of type @.";
+const NO_VALUE_OF_TYPE: &str = "@ in the column @ is no value of @.";
 
 pub(crate) const NO_INT: Wording = Wording {
     what: NO_VALUE_OF_TYPE,

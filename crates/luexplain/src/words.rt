@@ -202,12 +202,16 @@ fn put_count(text: &mut String, count: usize, thing: &str) -> Result<(), AllocEr
     text.push('s')
 }
 
+/// What a variable is of: a type by its name, or one that isn't declared.
 fn put_type(text: &mut String, program: &Program, kind: Kind) -> Result<(), AllocError> {
     match kind {
-        Kind::Int => text.push_str("`int`"),
-        Kind::Bool => text.push_str("`bool`"),
-        Kind::Enum(place, _) => match type_at_place(program, place) {
-            Some(declared) => put_quoted(text, declared.name.as_str().as_bytes()),
+        Kind::Int => text.push_str("type `int`"),
+        Kind::Bool => text.push_str("type `bool`"),
+        Kind::Enum(place, count) => match type_at_place(program, place, count) {
+            Some(declared) => {
+                text.push_str("type ")?;
+                put_quoted(text, declared.name.as_str().as_bytes())
+            }
             None => text.push_str("a type that isn't declared"),
         },
     }
@@ -222,7 +226,7 @@ pub(crate) fn put_start(
     match kind {
         Kind::Int => text.push('0'),
         Kind::Bool => text.push_str("false"),
-        Kind::Enum(place, _) => match type_at_place(program, place) {
+        Kind::Enum(place, count) => match type_at_place(program, place, count) {
             Some(declared) => match declared.names.as_slice() {
                 [first, ..] => put_cut(text, first.name.as_str()),
                 [] => text.push('0'),

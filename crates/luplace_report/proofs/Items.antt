@@ -1,24 +1,24 @@
--- What a site does at an instant, counted.
+-- What a site does at an instant, and what passes over a link, counted.
 use Rattle.std.proofs.Common.{◌≡◌, ◌≢◌, inl, inr, zero-add, ℕ, zero, suc, ◌+◌, ◌<◌, ◌≤◌, Bool, true, false, cond, List, [], ◌∷◌, length, map, get_or, nat_eq, filter, sum_by, count_by, Some, refl, sym, ap, ap₂, ◌∙◌, subst, arith, length-append}
-use Rattle.std.specs.Prelude.{slice_get, All, Contains, not, ◌||◌, ◌&&◌, ◌==◌, nat_lt, unwrap_or}
+use Rattle.std.specs.Prelude.{slice_get, All, Contains, not, ◌||◌, ◌&&◌, ◌==◌, nat_lt, unwrap_or, flat_map}
 use Rattle.std.specs.List.{range_with_len}
 use Rattle.std.specs.Option.{option_map}
 use Rattle.std.proofs.lemmas.Bool.{cases_eq, true≢false, eqb-true, eq-eqb, ne_eqb, lt-ltb}
 use Rattle.std.proofs.lemmas.List.{length-map}
 use Rattle.std.proofs.lemmas.List.Concat.{length-flat_map}
 use Rattle.std.proofs.lemmas.List.FromFn.{length-range_with_len, get_or-range_with_len}
-use Rattle.std.proofs.lemmas.List.Sums.{sum_by-cons, length-filter}
+use Rattle.std.proofs.lemmas.List.Sums.{sum_by-cons, sum_by-append, length-filter}
 use Rattle.std.proofs.lemmas.Option.{slice_get_within, slice_get-get_or, get_or_from_slice_get}
 use Rattle.luflow.specs.Program.{flows_of}
 use Rattle.luworld.specs.declared.link.Link.{Link}
-use Rattle.luworld.specs.Systems.{Compute, Puts, Takes}
+use Rattle.luworld.specs.Systems.{Compute, Puts, Takes, puts}
 use Rattle.luworld.specs.Outline.{Outline, links_of, message_items, compute_items, flow_items, round_cell}
 use Rattle.luflow.specs.Rank.{row}
 use Rattle.luworld.specs.Needs.{PlanView, stands, home, is_in}
 use Rattle.luworld.specs.Jobs.{JobView, IsJobView, outline, streams_of, carried, receiver_of}
 use Rattle.luworld.proofs.Fitting.{fits, job_of_run}
 use Rattle.luworld.proofs.Outlines.{is_outline}
-use Rattle.luplace_report.specs.Table.{flow_count, received_count, sent_count, item_count, AreItems, ItemsLaw}
+use Rattle.luplace_report.specs.Table.{flow_count, received_count, sent_count, item_count, AreItems, ItemsLaw, AreMessages, MessagesLaw}
 use Rattle.luplace_report.proofs.Causes.{sent, IsSent, main, not_true, and_second}
 
 -- SUMS
@@ -285,3 +285,107 @@ module _ (job : JobView) (run : IsJobView job) (s : ℕ) where
 
 pub items_law : ItemsLaw
 items_law job s t run = items_are job run s t
+
+-- A LINK'S MESSAGES
+
+count_flat : {X Y : Type 0} (p : Y → Bool) (f : X → List Y) (xs : List X) → count_by p (flat_map f xs) ≡ sum_by (λ x. count_by p (f x)) xs
+count_flat p f [] = refl
+count_flat p f (x ∷ xs) = omega (arith, sum_by-append (λ y. one_if (p y)) (f x) (flat_map f xs), sum_by-cons (λ y. count_by p (f y)) x xs, count_flat p f xs)
+
+count_puts : (l : ℕ) (ks : List ℕ) → count_by (puts l) (map Puts ks) ≡ count_by (λ k. nat_eq k l) ks
+count_puts l [] = refl
+count_puts l (k ∷ ks) = omega (arith, sum_by-cons (λ y. one_if (puts l y)) (Puts k) (map Puts ks), sum_by-cons (λ y. one_if (nat_eq y l)) k ks, count_puts l ks)
+
+count_takes : (l : ℕ) (ks : List ℕ) → count_by (puts l) (map Takes ks) ≡ 0
+count_takes l [] = refl
+count_takes l (k ∷ ks) = omega (arith, sum_by-cons (λ y. one_if (puts l y)) (Takes k) (map Takes ks), count_takes l ks)
+
+module _ (job : JobView) (run : IsJobView job) (l : ℕ) (inside : l < length job.plan.links) where
+  abbrev lined : Outline
+  lined = outline job (streams_of job)
+
+  abbrev flow : ℕ
+  flow = carried job.plan l
+
+  abbrev sender : ℕ
+  sender = home job.plan flow
+
+  -- a flow's links have the link once, or not at all
+  among : (i : ℕ) → count_by (λ k. nat_eq k l) (links_of lined i) ≡ one_if (nat_eq flow i)
+  among i =
+      let carries = λ (k : ℕ). nat_eq (carried job.plan k) i in
+      let ks = range_with_len 0 (length job.plan.links) in
+      count_both (λ k. nat_eq k l) carries ks
+      ∙ sum_same (λ k. one_if (carries k && nat_eq k l)) (λ k. one_if (nat_eq k l && carries k)) ks
+      (everywhere (λ k. one_if (carries k && nat_eq k l) ≡ one_if (nat_eq k l && carries k)) ks (λ k. turned (carries k) (nat_eq k l)))
+      ∙ that_one carries l 0 (length job.plan.links) (omega arith) (omega (arith, inside))
+    where
+      turned : (b c : Bool) → one_if (b && c) ≡ one_if (c && b)
+      turned true true = refl
+      turned true false = refl
+      turned false true = refl
+      turned false false = refl
+
+  put_messages : (i : ℕ) → count_by (puts l) (message_items lined sender i) ≡ cond (nat_eq (home job.plan i) sender) (one_if (nat_eq flow i)) 0
+  put_messages i = go (nat_eq (home job.plan i) sender)
+    where
+      go : (b : Bool) → count_by (puts l) (cond b (map Puts (links_of lined i)) (map Takes (filter (λ k. nat_eq (receiver_of job.plan k) sender) (links_of lined i)))) ≡ cond b (one_if (nat_eq flow i)) 0
+      go true = count_puts l (links_of lined i) ∙ among i
+      go false = count_takes l (filter (λ k. nat_eq (receiver_of job.plan k) sender) (links_of lined i))
+
+  put_items : (i t : ℕ) → count_by (puts l) (flow_items lined sender i t) ≡ count_by (puts l) (message_items lined sender i)
+  put_items i t = sum_by-append (λ y. one_if (puts l y)) (compute_items lined sender i t) (message_items lined sender i) ∙ ap (λ n. n + count_by (puts l) (message_items lined sender i)) (go (stands job.plan i sender)) ∙ zero-add (count_by (puts l) (message_items lined sender i))
+    where
+      go : (b : Bool) → count_by (puts l) (cond b (Compute i t ∷ []) []) ≡ 0
+      go true = refl
+      go false = refl
+
+  few_messages : (i : ℕ) → count_by (puts l) (message_items lined sender i) ≤ one_if (nat_eq flow i)
+  few_messages i = let e = put_messages i in let f = go (nat_eq (home job.plan i) sender) in omega (arith, e, f)
+    where
+      go : (b : Bool) → cond b (one_if (nat_eq flow i)) 0 ≤ one_if (nat_eq flow i)
+      go true = omega arith
+      go false = omega arith
+
+  few_puts : (t i : ℕ) → count_by (puts l) (round_cell lined sender t i) ≤ one_if (nat_eq flow i)
+  few_puts t i = go (nat_lt t lined.instants) (lined.present i t)
+    where
+      go : (b c : Bool) → count_by (puts l) (cond b (cond c (flow_items lined sender i t) []) (message_items lined sender i)) ≤ one_if (nat_eq flow i)
+      go true true = omega (arith, put_items i t, few_messages i)
+      go true false = omega arith
+      go false c = few_messages i
+
+  all_puts : sum_by (λ i. one_if (nat_eq flow i)) job.plan.flat.order ≡ 1
+  all_puts = (is_outline job (job_of_run job run)).linked_once l inside
+
+  present_puts : (t : ℕ) → t < job.inputs.instants → lined.present flow t ≡ true → (i : ℕ) → count_by (puts l) (round_cell lined sender t i) ≡ one_if (nat_eq flow i)
+  present_puts t lt there i = go (nat_eq flow i) refl (few_puts t i)
+    where
+      here : flow ≡ i → count_by (puts l) (round_cell lined sender t flow) ≡ 1
+      here e =
+          ap₂ (λ b c. count_by (puts l) (cond b (cond c (flow_items lined sender flow t) []) (message_items lined sender flow))) (lt-ltb t lined.instants lt) there
+          ∙ put_items flow t
+          ∙ put_messages flow
+          ∙ ap₂ (λ b c. cond b (one_if c) 0) (eq-eqb sender sender refl) (eq-eqb flow flow refl)
+
+      go : (b : Bool) → nat_eq flow i ≡ b → count_by (puts l) (round_cell lined sender t i) ≤ one_if (nat_eq flow i) → count_by (puts l) (round_cell lined sender t i) ≡ one_if (nat_eq flow i)
+      go true e few =
+          let same = eqb-true flow i e in
+          ap (λ j. count_by (puts l) (round_cell lined sender t j)) (sym same) ∙ here same ∙ sym (ap one_if e)
+      go false e few = let none = ap one_if e in omega (arith, few, none)
+
+  messages_are_few : (t : ℕ) → AreMessages job l t
+  messages_are_few t = record {
+    at_most =
+        let a = count_flat (puts l) (round_cell lined sender t) job.plan.flat.order in
+        let b = sum_le (λ i. count_by (puts l) (round_cell lined sender t i)) (λ i. one_if (nat_eq flow i)) job.plan.flat.order (few_puts t) in
+        omega (arith, a, b, all_puts);
+    present = λ lt there.
+        count_flat (puts l) (round_cell lined sender t) job.plan.flat.order
+        ∙ sum_same (λ i. count_by (puts l) (round_cell lined sender t i)) (λ i. one_if (nat_eq flow i)) job.plan.flat.order
+        (everywhere (λ i. count_by (puts l) (round_cell lined sender t i) ≡ one_if (nat_eq flow i)) job.plan.flat.order (present_puts t lt there))
+        ∙ all_puts;
+  }
+
+pub messages_law : MessagesLaw
+messages_law job l t run lt = messages_are_few job run l lt t

@@ -1,5 +1,5 @@
 -- What is made of each number below a bound, or of each of a list's first things, one more; and what is found at a place.
-use Rattle.std.proofs.Common.{◌≡◌, ℕ, ◌+◌, ◌<◌, ◌≤◌, Bor, Some, None, refl, Vec, Global, length, take, get_or, List, [], ◌∷◌, ◌++◌, map, flat_map, sym, ap, ap₂, ◌∙◌, arith, append_assoc}
+use Rattle.std.proofs.Common.{◌≡◌, ℕ, ◌+◌, ◌<◌, ◌≤◌, Bor, Some, None, refl, Vec, Global, length, take, get_or, List, [], ◌∷◌, ◌++◌, map, flat_map, sym, ap, ap₂, ◌∙◌, arith}
 use Rattle.std.specs.List.{range_with_len}
 use Rattle.std.proofs.lemmas.List.{map-append, take_all, take_more}
 use Rattle.std.proofs.lemmas.Option.{slice_get_read, slice_get_past}
@@ -11,7 +11,7 @@ use Rattle.serde_json.specs.View.{view, items_of}
 use Rattle.serde_json.specs.declared.value.Value.{Value}
 use Rattle.serde_json.specs.declared.value.Value.TheVariants.{Array}
 use Rattle.serde_json.proofs.Views.{view-Array}
-use Rattle.luworld.proofs.Rounds.{range_more, one_more}
+use Rattle.luplace_report.proofs.Aligning.{rows_more}
 
 -- a vector that is seen as what is made of the numbers, and has one item more
 pub pushed_more : {X Y : Type 0} (seen : X → Y) (f : ℕ → Y) (n : ℕ) (old new : List X) (x : X) → map seen old ≡ map f (range_with_len 0 n) → new ≡ old ++ x ∷ [] → seen x ≡ f n → map seen new ≡ map f (range_with_len 0 (n + 1))
@@ -33,10 +33,7 @@ all_taken f zs i v made past = view-Array v ∙ ap (λ ds. array (items_of ds)) 
 
 -- a text that has a piece for each number, and one piece more
 pub text_more : (f : ℕ → List ℕ) (n : ℕ) (start old new : List ℕ) → old ≡ start ++ flat_map f (range_with_len 0 n) → new ≡ old ++ f n → new ≡ start ++ flat_map f (range_with_len 0 (n + 1))
-text_more f n start old new before is =
-    let z : 0 + n ≡ n = omega arith in
-    let next : flat_map f (range_with_len 0 (n + 1)) ≡ flat_map f (range_with_len 0 n) ++ f n = ap (flat_map f) (range_more 0 n) ∙ ap (λ k. flat_map f (range_with_len 0 n ++ k ∷ [])) z ∙ one_more f (range_with_len 0 n) n in
-    is ∙ ap (λ xs. xs ++ f n) before ∙ append_assoc start (flat_map f (range_with_len 0 n)) (f n) ∙ ap (λ xs. start ++ xs) (sym next)
+text_more f n start old new before is = rows_more f n start old new before is
 
 -- the item that is found at a place, and none
 pub item_found : {A : Type 0} (xs ys : List A) (i : ℕ) (x : Bor A) → xs ≡ ys → IsGetResult xs i i (Some x) → slice_get ys i ≡ Some x.now

@@ -1,4 +1,6 @@
+pub mod Aligned
 pub mod Cause
+pub mod Cycles
 pub mod Graph
 pub mod Names
 pub mod Report

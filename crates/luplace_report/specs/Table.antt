@@ -1,20 +1,22 @@
--- A plan as four tables for a terminal, cells with a tab between them:
+-- A plan as four tables for a terminal, whose columns are aligned by blanks:
 --
---   site    flows   items
---   A       6       8
---   B       2       4
+--   site  flows  items
+--   A     6      8
+--   B     2      4
 --
---   link    flow    from    to      clock
---   0       c       A       B       -
---   1       s       A       B       c
+--   link  flow  from  to  clock  most
+--   0     c     A     B   -      1
+--   1     s     A     B   c      1
 --
---   link    why
---   0       c crosses A -> B since z at B reads it
---   1       s crosses A -> B since z at B reads it
+--   link  why
+--   0     c crosses A -> B since z at B reads it
+--   1     s crosses A -> B since z at B reads it
 --
---   run     by rows
-use Rattle.std.specs.Prelude.{◌≡◌, ◌<◌, ◌≤◌, true, ℕ, ◌+◌, ◌==◌, List, [], ◌++◌, length, count_by, flat_map}
-use Rattle.std.specs.Prelude.{codes, Option, Some, None, slice_get, slice_index}
+--   run  by rows
+--
+-- Where sites feed each other, lines such as `cycle  A, B feed each other, and go in step` follow the last.
+use Rattle.std.specs.Prelude.{◌≡◌, ◌<◌, ◌≤◌, Bool, true, ℕ, ◌+◌, ◌==◌, List, [], ◌∷◌, ◌++◌, length, map}
+use Rattle.std.specs.Prelude.{count_by, codes, Option, Some, None, slice_get, slice_index}
 use Rattle.std.specs.List.{range_with_len}
 use Rattle.std.specs.Fmt.{decimal}
 use Rattle.luflow.specs.declared.form.Clock.{Clock}
@@ -22,14 +24,17 @@ use Rattle.luflow.specs.declared.form.Clock.TheVariants.{Base, On}
 use Rattle.luflow.specs.Program.{FlatView, flows_of}
 use Rattle.luflow.specs.Variables.{variable_name}
 use Rattle.luworld.specs.declared.link.Link.{Link}
-use Rattle.luworld.specs.Needs.{PlanView, sites_of, stands}
+use Rattle.luworld.specs.Systems.{puts}
+use Rattle.luworld.specs.Needs.{PlanView, sites_of, stands, home}
 use Rattle.luworld.specs.Outline.{round}
-use Rattle.luworld.specs.Jobs.{JobView, IsJobView, outline, streams_of}
+use Rattle.luworld.specs.Jobs.{JobView, IsJobView, outline, streams_of, carried}
 use Rattle.luplace_report.specs.declared.cause.Cause.{Cause}
 use Rattle.luplace_report.specs.declared.cause.Cause.TheVariants.{Reader, Clock as ClockCause}
 use Rattle.luplace_report.specs.Names.{site_name, clock_of, clock_text}
 use Rattle.luplace_report.specs.Cause.{cause_of}
-use Rattle.luplace_report.specs.Way.{way_row}
+use Rattle.luplace_report.specs.Aligned.{aligned}
+use Rattle.luplace_report.specs.Cycles.{AreFed, cycle_rows}
+use Rattle.luplace_report.specs.Way.{way_cells}
 use Rattle.luways.specs.declared.way.Way.{Way}
 use Rattle.luways.specs.Ways.{IsWayOf}
 
@@ -51,13 +56,15 @@ sent_count plan s = count_by (λ (link : Link). link.from == s) plan.links
 abbrev pub item_count : PlanView → ℕ → ℕ
 item_count plan s = flow_count plan s + received_count plan s + sent_count plan s
 
-abbrev pub site_row : PlanView → ℕ → List ℕ
-site_row plan s = site_name plan.names s
-    ++ (codes "\t" ++ (decimal (flow_count plan s)
-    ++ (codes "\t" ++ (decimal (item_count plan s) ++ codes "\n"))))
+abbrev pub site_cells : PlanView → ℕ → List (List ℕ)
+site_cells plan s =
+    site_name plan.names s ∷ decimal (flow_count plan s) ∷ decimal (item_count plan s) ∷ []
 
-abbrev pub site_rows : PlanView → List ℕ
-site_rows plan = flat_map (site_row plan) (range_with_len 0 (sites_of plan))
+abbrev pub site_head : List (List ℕ)
+site_head = codes "site" ∷ codes "flows" ∷ codes "items" ∷ []
+
+abbrev pub site_rows : PlanView → List (List (List ℕ))
+site_rows plan = site_head ∷ map (site_cells plan) (range_with_len 0 (sites_of plan))
 
 -- LINKS
 
@@ -66,20 +73,26 @@ abbrev pub clock_cell : FlatView → Clock → List ℕ
 clock_cell flat Base = codes "-"
 clock_cell flat (On c d) = clock_text flat (On c d)
 
-abbrev pub link_row : PlanView → ℕ → Link → List ℕ
-link_row plan l link =
-    decimal l ++ (codes "\t" ++ (variable_name plan.flat link.flow
-    ++ (codes "\t" ++ (site_name plan.names link.from
-    ++ (codes "\t" ++ (site_name plan.names link.to ++ codes "\t"))))))
-    ++ (clock_cell plan.flat (clock_of plan.flat link.flow) ++ codes "\n")
+-- how many messages pass over a link at an instant at most: a link carries one variable
+abbrev pub most_messages : ℕ
+most_messages = 1
 
--- a row for a link, where there is one of the number
-abbrev pub row_of : (Link → List ℕ) → Option Link → List ℕ
-row_of row None = []
-row_of row (Some link) = row link
+abbrev pub link_cells : PlanView → ℕ → Link → List (List ℕ)
+link_cells plan l link =
+    decimal l ∷ variable_name plan.flat link.flow ∷ site_name plan.names link.from
+    ∷ site_name plan.names link.to ∷ clock_cell plan.flat (clock_of plan.flat link.flow)
+    ∷ decimal most_messages ∷ []
 
-abbrev pub link_rows : PlanView → List ℕ
-link_rows plan = flat_map (λ l. row_of (link_row plan l) (slice_get plan.links l))
+-- the cells for a link, where there is one of the number
+abbrev pub cells_of : (Link → List (List ℕ)) → Option Link → List (List ℕ)
+cells_of cells None = []
+cells_of cells (Some link) = cells link
+
+abbrev pub link_head : List (List ℕ)
+link_head = codes "link" ∷ codes "flow" ∷ codes "from" ∷ codes "to" ∷ codes "clock" ∷ codes "most" ∷ []
+
+abbrev pub link_rows : PlanView → List (List (List ℕ))
+link_rows plan = link_head ∷ map (λ l. cells_of (link_cells plan l) (slice_get plan.links l))
     (range_with_len 0 (length plan.links))
 
 -- CAUSES
@@ -92,33 +105,46 @@ reason plan s (Some (Reader i)) = codes " since " ++ (variable_name plan.flat (s
 reason plan s (Some (ClockCause i)) =
     codes " since the clock of " ++ (variable_name plan.flat i ++ codes " needs it")
 
-abbrev pub cause_row : PlanView → ℕ → Link → List ℕ
-cause_row plan l link =
-    decimal l ++ (codes "\t" ++ (variable_name plan.flat link.flow
+abbrev pub cause_text : PlanView → Link → List ℕ
+cause_text plan link =
+    variable_name plan.flat link.flow
     ++ (codes " crosses " ++ (site_name plan.names link.from
-    ++ (codes " -> " ++ site_name plan.names link.to)))))
-    ++ (reason plan link.to (cause_of plan link) ++ codes "\n")
+    ++ (codes " -> " ++ site_name plan.names link.to)))
+    ++ reason plan link.to (cause_of plan link)
 
-abbrev pub cause_rows : PlanView → List ℕ
-cause_rows plan = flat_map (λ l. row_of (cause_row plan l) (slice_get plan.links l))
+abbrev pub cause_cells : PlanView → ℕ → Link → List (List ℕ)
+cause_cells plan l link = decimal l ∷ cause_text plan link ∷ []
+
+abbrev pub cause_head : List (List ℕ)
+cause_head = codes "link" ∷ codes "why" ∷ []
+
+abbrev pub cause_rows : PlanView → List (List (List ℕ))
+cause_rows plan = cause_head ∷ map (λ l. cells_of (cause_cells plan l) (slice_get plan.links l))
     (range_with_len 0 (length plan.links))
 
--- the tables behind that of the sites, but for the first line
-abbrev pub rest_text : PlanView → Way → List ℕ
-rest_text plan way =
-    link_rows plan ++ (codes "\nlink\twhy\n" ++ (cause_rows plan ++ (codes "\n" ++ way_row plan.flat way)))
+-- RUNS
+
+-- in which way a run goes, and the cycles of sites
+abbrev pub run_rows : PlanView → Way → List (List Bool) → List (List (List ℕ))
+run_rows plan way fed = way_cells plan.flat way ∷ cycle_rows plan.names (sites_of plan) fed
+
+-- the tables of why links are there, and of runs
+abbrev pub rest_text : PlanView → Way → List (List Bool) → List ℕ
+rest_text plan way fed = aligned (cause_rows plan) ++ (codes "\n" ++ aligned (run_rows plan way fed))
 
 -- the four tables, with an empty line between two
-abbrev pub table_text : PlanView → Way → List ℕ
-table_text plan way =
-    codes "site\tflows\titems\n" ++ (site_rows plan
-    ++ (codes "\nlink\tflow\tfrom\tto\tclock\n" ++ rest_text plan way))
+abbrev pub table_text : PlanView → Way → List (List Bool) → List ℕ
+table_text plan way fed =
+    aligned (site_rows plan) ++ (codes "\n" ++ (aligned (link_rows plan)
+    ++ (codes "\n" ++ rest_text plan way fed)))
 
--- the text is that of the plan and its way
+-- the text is that of the plan, its way, and which of its sites feed which
 pub record IsTableOf (plan : PlanView) (text : List ℕ) : Type 0 where
   pub way : Way
   pub way_is : IsWayOf plan way
-  pub text_is : text ≡ table_text plan way
+  pub fed : List (List Bool)
+  pub fed_is : AreFed plan fed
+  pub text_is : text ≡ table_text plan way fed
 
 -- At an instant a site does that many items at most, and exactly as many where all clocks are true then.
 pub record AreItems (job : JobView) (s t : ℕ) : Type 0 where
@@ -129,3 +155,15 @@ pub record AreItems (job : JobView) (s t : ℕ) : Type 0 where
 
 abbrev pub ItemsLaw : Type 0
 ItemsLaw = (job : JobView) (s t : ℕ) → IsJobView job → AreItems job s t
+
+-- Over a link one message passes at an instant at most, and just one where its variable's clock is true then.
+pub record AreMessages (job : JobView) (l t : ℕ) : Type 0 where
+  pub at_most : count_by (puts l)
+      (round (outline job (streams_of job)) (home job.plan (carried job.plan l)) t) ≤ most_messages
+  pub present : t < job.inputs.instants
+      → (outline job (streams_of job)).present (carried job.plan l) t ≡ true
+      → count_by (puts l) (round (outline job (streams_of job)) (home job.plan (carried job.plan l)) t)
+      ≡ most_messages
+
+abbrev pub MessagesLaw : Type 0
+MessagesLaw = (job : JobView) (l t : ℕ) → IsJobView job → l < length job.plan.links → AreMessages job l t

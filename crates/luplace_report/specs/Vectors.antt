@@ -4,7 +4,7 @@
 -- s; y = x -> pre y + x; tel
 --
 -- with z at site B and all else at site A.
-use Rattle.std.specs.Prelude.{◌≡◌, ℕ, false, List, [], ◌∷◌, ◌++◌, map, flat_map, codes, Some, None}
+use Rattle.std.specs.Prelude.{◌≡◌, ℕ, Bool, true, false, List, [], ◌∷◌, ◌++◌, map, flat_map, codes, Some, None}
 use Rattle.luflow.specs.declared.data.Datum.TheVariants.{Bool as Truth}
 use Rattle.luflow.specs.declared.form.Clock.TheVariants.{On}
 use Rattle.luflow.specs.declared.form.Flow.{Flow}
@@ -21,7 +21,8 @@ use Rattle.luplace_report.specs.declared.cause.Cause.TheVariants.{Reader, Clock}
 use Rattle.luplace_report.specs.Cause.{cause_of}
 use Rattle.luplace_report.specs.Report.{report_text}
 use Rattle.luplace_report.specs.Table.{table_text}
-use Rattle.luplace_report.specs.Way.{way_row}
+use Rattle.luplace_report.specs.Cycles.{cycle_rows}
+use Rattle.luplace_report.specs.Way.{way_cells}
 use Rattle.luplace_report.specs.Graph.{graph_text}
 use Rattle.luways.specs.declared.way.Way.TheVariants.{Rows, Parted, Nil}
 
@@ -94,79 +95,105 @@ pub record CausesAre : Type 0 where
   -- what a site doesn't need doesn't cross to it
   pub no_cause : cause_of sampled.plan (link_of 2 0 1) ≡ None
 
+-- which sites feed which: A feeds B; A feeds B and C, and B feeds C; A and B feed each other
+abbrev pub one_way : List (List Bool)
+one_way = (true ∷ true ∷ []) ∷ (false ∷ true ∷ []) ∷ []
+
+abbrev pub down : List (List Bool)
+down = (true ∷ true ∷ true ∷ []) ∷ (false ∷ true ∷ true ∷ []) ∷ (false ∷ false ∷ true ∷ []) ∷ []
+
+abbrev pub both_ways : List (List Bool)
+both_ways = (true ∷ true ∷ []) ∷ (true ∷ true ∷ []) ∷ []
+
+-- of five sites the second and the last feed each other, and the first and the fourth; all feed the third
+abbrev pub two_groups : List (List Bool)
+two_groups =
+    (true ∷ false ∷ true ∷ true ∷ false ∷ [])
+    ∷ (false ∷ true ∷ true ∷ false ∷ true ∷ [])
+    ∷ (false ∷ false ∷ true ∷ false ∷ false ∷ [])
+    ∷ (true ∷ false ∷ true ∷ true ∷ false ∷ [])
+    ∷ (false ∷ true ∷ true ∷ false ∷ true ∷ [])
+    ∷ []
+
 pub record TablesAre : Type 0 where
-  pub one_site : table_text sampled.plan Rows ≡ lines
-      (codes "site\tflows\titems"
-      ∷ codes "A\t6\t8"
-      ∷ codes "B\t2\t4"
+  pub one_site : table_text sampled.plan Rows one_way ≡ lines
+      (codes "site  flows  items"
+      ∷ codes "A     6      8"
+      ∷ codes "B     2      4"
       ∷ []
-      ∷ codes "link\tflow\tfrom\tto\tclock"
-      ∷ codes "0\tc\tA\tB\t-"
-      ∷ codes "1\ts\tA\tB\tc"
+      ∷ codes "link  flow  from  to  clock  most"
+      ∷ codes "0     c     A     B   -      1"
+      ∷ codes "1     s     A     B   c      1"
       ∷ []
-      ∷ codes "link\twhy"
-      ∷ codes "0\tc crosses A -> B since z at B reads it"
-      ∷ codes "1\ts crosses A -> B since z at B reads it"
+      ∷ codes "link  why"
+      ∷ codes "0     c crosses A -> B since z at B reads it"
+      ∷ codes "1     s crosses A -> B since z at B reads it"
       ∷ []
-      ∷ codes "run\tby rows"
+      ∷ codes "run  by rows"
       ∷ [])
-  pub two_sites : table_text shared_run.plan Rows ≡ lines
-      (codes "site\tflows\titems"
-      ∷ codes "A\t6\t7"
-      ∷ codes "B\t3\t4"
+  pub two_sites : table_text shared_run.plan Rows one_way ≡ lines
+      (codes "site  flows  items"
+      ∷ codes "A     6      7"
+      ∷ codes "B     3      4"
       ∷ []
-      ∷ codes "link\tflow\tfrom\tto\tclock"
-      ∷ codes "0\ts\tA\tB\tc"
+      ∷ codes "link  flow  from  to  clock  most"
+      ∷ codes "0     s     A     B   c      1"
       ∷ []
-      ∷ codes "link\twhy"
-      ∷ codes "0\ts crosses A -> B since z at B reads it"
+      ∷ codes "link  why"
+      ∷ codes "0     s crosses A -> B since z at B reads it"
       ∷ []
-      ∷ codes "run\tby rows"
+      ∷ codes "run  by rows"
       ∷ [])
-  pub three_sites : table_text handed.plan Rows ≡ lines
-      (codes "site\tflows\titems"
-      ∷ codes "A\t5\t8"
-      ∷ codes "B\t4\t7"
-      ∷ codes "C\t1\t3"
+  pub three_sites : table_text handed.plan Rows down ≡ lines
+      (codes "site  flows  items"
+      ∷ codes "A     5      8"
+      ∷ codes "B     4      7"
+      ∷ codes "C     1      3"
       ∷ []
-      ∷ codes "link\tflow\tfrom\tto\tclock"
-      ∷ codes "0\tx\tA\tB\t-"
-      ∷ codes "1\tc\tA\tB\t-"
-      ∷ codes "2\tc\tA\tC\t-"
-      ∷ codes "3\ts\tB\tC\tc"
+      ∷ codes "link  flow  from  to  clock  most"
+      ∷ codes "0     x     A     B   -      1"
+      ∷ codes "1     c     A     B   -      1"
+      ∷ codes "2     c     A     C   -      1"
+      ∷ codes "3     s     B     C   c      1"
       ∷ []
-      ∷ codes "link\twhy"
-      ∷ codes "0\tx crosses A -> B since s at B reads it"
-      ∷ codes "1\tc crosses A -> B since z at B reads it"
-      ∷ codes "2\tc crosses A -> C since the clock of s needs it"
-      ∷ codes "3\ts crosses B -> C since y at C reads it"
+      ∷ codes "link  why"
+      ∷ codes "0     x crosses A -> B since s at B reads it"
+      ∷ codes "1     c crosses A -> B since z at B reads it"
+      ∷ codes "2     c crosses A -> C since the clock of s needs it"
+      ∷ codes "3     s crosses B -> C since y at C reads it"
       ∷ []
-      ∷ codes "run\tby rows"
+      ∷ codes "run  by rows"
       ∷ [])
-  pub by_names : table_text moded Rows ≡ lines
-      (codes "site\tflows\titems"
-      ∷ codes "A\t8\t11"
-      ∷ codes "B\t1\t4"
+  pub by_names : table_text moded Rows both_ways ≡ lines
+      (codes "site  flows  items"
+      ∷ codes "A     8      11"
+      ∷ codes "B     1      4"
       ∷ []
-      ∷ codes "link\tflow\tfrom\tto\tclock"
-      ∷ codes "0\tm\tA\tB\t-"
-      ∷ codes "1\tx\tA\tB\t-"
-      ∷ codes "2\tz\tB\tA\tDown(m)"
+      ∷ codes "link  flow  from  to  clock    most"
+      ∷ codes "0     m     A     B   -        1"
+      ∷ codes "1     x     A     B   -        1"
+      ∷ codes "2     z     B     A   Down(m)  1"
       ∷ []
-      ∷ codes "link\twhy"
-      ∷ codes "0\tm crosses A -> B since z at B reads it"
-      ∷ codes "1\tx crosses A -> B since z at B reads it"
-      ∷ codes "2\tz crosses B -> A since y at A reads it"
+      ∷ codes "link  why"
+      ∷ codes "0     m crosses A -> B since z at B reads it"
+      ∷ codes "1     x crosses A -> B since z at B reads it"
+      ∷ codes "2     z crosses B -> A since y at A reads it"
       ∷ []
-      ∷ codes "run\tby rows"
+      ∷ codes "run    by rows"
+      ∷ codes "cycle  A, B feed each other, and go in step"
       ∷ [])
+  -- groups in order of their first sites
+  pub groups : cycle_rows (codes "P" ∷ codes "Q" ∷ codes "R" ∷ codes "S" ∷ codes "T" ∷ []) 5 two_groups
+      ≡ (codes "cycle" ∷ codes "P, S feed each other, and go in step" ∷ [])
+      ∷ (codes "cycle" ∷ codes "Q, T feed each other, and go in step" ∷ [])
+      ∷ []
   -- where a run goes instant by instant
-  pub parted : way_row sampled_sum
-      (Parted (2 ∷ 4 ∷ [])) ≡ codes "run\tinstant by instant: a cycle of y, s is parted over sites\n"
-  pub one_nil : way_row sampled_sum
-      (Nil (2 ∷ [])) ≡ codes "run\tinstant by instant: y may have no value at first, and is sent\n"
-  pub some_nil : way_row sampled_sum
-      (Nil (2 ∷ 3 ∷ 4 ∷ [])) ≡ codes "run\tinstant by instant: y, z, s may have no value at first, and are sent\n"
+  pub parted : way_cells sampled_sum (Parted (2 ∷ 4 ∷ [])) ≡ codes "run"
+      ∷ codes "instant by instant: a cycle of y, s is parted over sites" ∷ []
+  pub one_nil : way_cells sampled_sum (Nil (2 ∷ [])) ≡ codes "run"
+      ∷ codes "instant by instant: y may have no value at first, and is sent" ∷ []
+  pub some_nil : way_cells sampled_sum (Nil (2 ∷ 3 ∷ 4 ∷ [])) ≡ codes "run"
+      ∷ codes "instant by instant: y, z, s may have no value at first, and are sent" ∷ []
 
 pub record GraphsAre : Type 0 where
   pub one_site : graph_text sampled.plan ≡ lines

@@ -1,8 +1,8 @@
 -- How the way of a plan is reported:
 --
---   run     by rows
---   run     instant by instant: a cycle of a, b is parted over sites
---   run     instant by instant: x, y may have no value at first, and are sent
+--   run  by rows
+--   run  instant by instant: a cycle of a, b is parted over sites
+--   run  instant by instant: x, y may have no value at first, and are sent
 use Rattle.std.specs.Prelude.{ℕ, List, [], ◌∷◌, ◌++◌, flat_map, codes}
 use Rattle.luflow.specs.Program.{FlatView}
 use Rattle.luflow.specs.Variables.{variable_name}
@@ -36,5 +36,5 @@ way_text flat Rows = codes "by rows"
 way_text flat (Parted vs) = parted_text flat vs
 way_text flat (Nil vs) = nil_text flat vs
 
-abbrev pub way_row : FlatView → Way → List ℕ
-way_row flat way = codes "run\t" ++ (way_text flat way ++ codes "\n")
+abbrev pub way_cells : FlatView → Way → List (List ℕ)
+way_cells flat way = codes "run" ∷ way_text flat way ∷ []

@@ -4,10 +4,14 @@
 //! - [`report_idle`]: a line for each site at which nothing stands.
 //! - [`cause_of`], [`Cause`]: why a link is there.
 //! - [`laws`]: each link of a plan has a cause, each edge has both ends, a site's items are counted; worked reports.
-//! - `names`: how variables, sites, types and clocks are named; `way`: how the way of a plan is reported.
+//! - `names`: how variables, sites, types and clocks are named; `way`: how the way of a plan is reported; `cycles`: sites that feed each other.
+//! - `cells`, `aligned`: rows of cells, and tables whose columns are aligned.
 #![tactic(auto)]
 
+mod aligned;
 mod cause;
+mod cells;
+mod cycles;
 mod dot;
 mod idle;
 mod json;

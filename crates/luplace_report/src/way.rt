@@ -1,12 +1,14 @@
 //! How the way of a plan is reported.
 
-ghost use Rattle.std.specs.Prelude.{◌≡◌};
+ghost use Rattle.std.specs.Prelude.{◌≡◌, IfOk};
 ghost use Rattle.luplace_report.specs.Names.{Adds};
-ghost use Rattle.luplace_report.specs.Way.{further_names, variable_list, sent_text, parted_text, nil_text, way_text, way_row};
+ghost use Rattle.luplace_report.specs.Way.{further_names, variable_list, sent_text, parted_text, nil_text, way_text, way_cells};
 
+use crate::cells::text_pair;
+use lubase::{Name, Row};
 use luflow::Flat;
 use luways::Way;
-use std::alloc::AllocError;
+use std::alloc::{AllocError, Global};
 
 /// A comma and the name of a variable, for each of these.
 fn put_further(text: &mut String, flat: &Flat, variables: &[usize]) -> Result<(), AllocError>
@@ -77,11 +79,11 @@ fn put_text(text: &mut String, flat: &Flat, way: &Way) -> Result<(), AllocError>
     }
 }
 
-/// Adds the row of a plan's way.
-pub fn put_way(text: &mut String, flat: &Flat, way: &Way) -> Result<(), AllocError>
-    ensures { Adds result text.old text.new (way_row flat.now way.now) }
+/// The row of a plan's way.
+pub fn way_cells(alloc: Global, flat: &Flat, way: &Way) -> Result<Row<Name>, AllocError>
+    ensures { IfOk result (λ row. row ≡ way_cells flat.now way.now) }
 {
-    text.push_str("run\t")?;
-    put_text(text, flat, way)?;
-    text.push('\n')
+    let mut text = String::new(alloc);
+    put_text(&mut text, flat, way)?;
+    text_pair(alloc, "run", text)
 }

@@ -1,5 +1,5 @@
 -- What the end of a call says.
-use Rattle.std.proofs.Common.{◌≡◌, ◌≢◌, ◌⊎◌, ℕ, Bool, true, false, cond, List, [], subst, refl, sym, ap, ◌∙◌, inl, inr, arith}
+use Rattle.std.proofs.Common.{◌≡◌, ◌≢◌, ◌⊎◌, ℕ, Bool, true, false, cond, List, [], ◌++◌, subst, refl, sym, ap, ap₂, ◌∙◌, inl, inr, arith}
 use Rattle.std.specs.Io.KnownBytes.{Appends}
 use Rattle.clap.specs.declared.error.kind.ErrorKind.{ErrorKind}
 use Rattle.clap.specs.declared.error.kind.ErrorKind.TheVariants as clap
@@ -11,6 +11,7 @@ use Rattle.lutab.specs.declared.error.TabError.TheVariants as tab
 use Rattle.lusdist_shell.specs.declared.schedule.ScheduleError.TheVariants as schedule
 use Rattle.lusdist_shell.specs.declared.request.Request.{Request}
 use Rattle.lusdist_shell.specs.declared.request.Request.TheVariants.{Check, Eval, Plan, Replay, Run, Explain}
+use Rattle.lusdist_shell.specs.declared.request.ReplayRequest.{ReplayRequest}
 use Rattle.lusdist_shell.specs.declared.request.TurnsForm.{TurnsForm}
 use Rattle.lusdist_shell.specs.declared.request.TurnsForm.TheVariants.{Nothing}
 use Rattle.lusdist_shell.specs.Request.{IsAskedBy}
@@ -21,8 +22,12 @@ use Rattle.lusdist_shell.specs.Dumps.{Written, DumpFacts}
 use Rattle.lusdist_call.specs.Answers.{IsAnswer, IsDone, AskForNoNotes, IsQuiet, AreCheckNotes}
 use Rattle.lusdist_call.specs.Answers.AreCheckNotes.{unasked, warned}
 use Rattle.luplace_report.specs.Idle.{idle_text}
+use Rattle.luworld.specs.Jobs.{JobView}
+use Rattle.luworld.specs.Needs.{sites_of}
+use Rattle.luweave_text.specs.Stray.{stray_text}
+use Rattle.luworld.specs.WorldViews.{WorldView}
 use Rattle.lusdist_shell.specs.declared.request.CheckRequest.{CheckRequest}
-use Rattle.lusdist_call.specs.Asked.{AreNotesOf}
+use Rattle.lusdist_call.specs.Noted.{AreNotesOf, AreStandsOf, AreReplayNotes}
 use Rattle.lusdist_call.specs.Files.{IsUnfiled}
 use Rattle.lusdist_call.specs.Statuses.{status_of}
 use Rattle.lusdist_call.specs.Stopped.{IsRefusal}
@@ -31,7 +36,7 @@ use Rattle.lusdist_call.specs.Left.IsEnded.{answered, refused, undumped, unwritt
 use Rattle.lusdist_call.specs.Left.IsCallEnded.{overwriting, shut, no_memory}
 use Rattle.lusdist_call.specs.Lines.{line_of}
 use Rattle.lusdist_call.specs.Targets.{IsDumpRefused, AskOver}
-use Rattle.lusdist_call.specs.declared.mistake.Mistake.TheVariants.{UnknownCode, NoChart, Backwards, Overwritten}
+use Rattle.lusdist_call.specs.declared.mistake.Mistake.TheVariants.{UnknownCode, NoChart, Backwards, Overwritten, TwoForms}
 use Rattle.clap.specs.Words.{fault_of}
 use Rattle.lusdist_shell.specs.CommandLine.{lusdist}
 use Rattle.lusdist_shell.specs.Files.{FileFacts}
@@ -66,14 +71,23 @@ no_check_notes : (request : CheckRequest) (bytes notes : List ℕ) → request.w
 no_check_notes request bytes notes quiet (unasked e none) = none
 no_check_notes request bytes notes quiet (warned program warnings asked spelled placed all lines) = absurd (let clash : true ≡ false = sym asked ∙ quiet in cc)
 
--- where neither warnings nor turns are to be reported there are no notes
+-- neither turns nor sites are to be reported of a replay
+no_replay_notes : (request : ReplayRequest) (job : JobView) (turns : List ℕ) (w : WorldView) (notes : List ℕ) → request.turns ≡ Nothing → request.explain ≡ false
+    → AreReplayNotes request job turns w notes → notes ≡ []
+no_replay_notes request job turns w notes quiet wordless are =
+    let none = subst (λ (form : TurnsForm). AreNotesOf job turns request form w.dones are.of_turns) quiet are.turns_are in
+    let no_sites = subst (λ (b : Bool). AreStandsOf b w are.of_sites) wordless are.sites_are in
+    let no_warnings = ap (λ (b : Bool). cond b (stray_text request.schedule.now (sites_of job.plan) turns) []) wordless in
+    are.notes_are ∙ ap₂ (λ (xs ys : List ℕ). xs ++ ys) none (ap₂ (λ (xs ys : List ℕ). xs ++ ys) no_warnings no_sites)
+
+-- where neither warnings nor turns nor words are to be reported there are no notes
 no_notes : (gives : FileFacts) (request : Request) (text notes : List ℕ) (dump : Option (List ℕ)) → IsQuiet request → IsAnswer gives request text notes dump → notes ≡ []
 no_notes gives (Check request) text notes dump quiet is = no_check_notes request is.0.program notes quiet is.0.notes_are
 no_notes gives (Eval request) text notes dump quiet is = is.1
 no_notes gives (Plan request) text notes dump quiet is = is.0.notes_are ∙ ap (λ (b : Bool). cond b (idle_text request.place.now is.0.plan) []) quiet
 no_notes gives (Run request) text notes dump quiet is = is.1
 no_notes gives (Explain request) text notes dump quiet is = is.1.0
-no_notes gives (Replay request) text notes dump quiet is = subst (λ (form : TurnsForm). AreNotesOf is.job is.turns request.finish form is.printed.world.dones notes) quiet is.printed.notes_are
+no_notes gives (Replay request) text notes dump quiet is = no_replay_notes request is.job is.turns is.printed.world notes quiet.0 quiet.1 is.printed.notes_are
 
 -- a refusal has one of three statuses
 pub status_some : (stop : CallError) → (status_of stop ≡ 1) ⊎ ((status_of stop ≡ 2) ⊎ (status_of stop ≡ 3))
@@ -203,6 +217,7 @@ module _ (gives : FileFacts) (dumps : DumpFacts) (words : List (List ℕ)) (requ
   dump_ended streams status none (Mistaken NoChart) h e err = absurd h
   dump_ended streams status none (Mistaken (Backwards from to)) h e err = absurd h
   dump_ended streams status none (Mistaken (Overwritten path role)) h e err = overwriting request path role none asked h e refl err
+  dump_ended streams status none (Mistaken TwoForms) h e err = absurd h
 
   -- with status 2 where the dump would take the place of a file, and else with 3
   pub dump_status : (stop : CallError) → IsDumpRefused dumps request stop → ((status_of stop ≡ 2) × AskOver dumps words) ⊎ (status_of stop ≡ 3)
@@ -223,3 +238,4 @@ module _ (gives : FileFacts) (dumps : DumpFacts) (words : List (List ℕ)) (requ
   dump_status (Mistaken NoChart) h = absurd h
   dump_status (Mistaken (Backwards from to)) h = absurd h
   dump_status (Mistaken (Overwritten path role)) h = inl (refl, record { request = request; asked = asked; path = path; role = role; over = h })
+  dump_status (Mistaken TwoForms) h = absurd h

@@ -1,6 +1,5 @@
 -- What a call printed when it was done is true of the program that its texts say.
 use Rattle.std.proofs.Common.{◌≡◌, ℕ, List, Option, Some, codes, get_or, sym, ap, ◌∙◌, subst, arith}
-use Rattle.std.specs.Prelude.{All}
 use Rattle.std.proofs.lemmas.Option.{same_Some}
 use Rattle.clap.specs.Walk.{Text, Row}
 use Rattle.clap.specs.Simple.{subcommand_of}

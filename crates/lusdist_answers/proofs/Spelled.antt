@@ -16,7 +16,7 @@ use Rattle.lusource.specs.Names.{variables_of, AreDistinct}
 use Rattle.lustat_rules.specs.Scope.{declarations_of, kind_of}
 use Rattle.lustat_rules.specs.Scope as rules
 use Rattle.lustat_rules.specs.Accepted as accepted
-use Rattle.lucore_laws.specs.Layout.{IsLaidOut, enum_of, types_of}
+use Rattle.lucore_laws.specs.Layout.{enum_of}
 use Rattle.lucore_laws.proofs.Names.{distinct, get-names, mapped_some, place_at, placed}
 use Rattle.lucore_laws.proofs.NodeStatic.{first_is}
 use Rattle.lucore_laws.proofs.Roles.{main_declared}

@@ -8,17 +8,18 @@ ghost use Rattle.luflow.specs.Variables.{outputs_of};
 ghost use Rattle.lueval.specs.Whole.{HasNoFault, IsAnswer};
 ghost use Rattle.lutab.specs.Outputs.{shown_of};
 ghost use Rattle.lusdist_call.specs.Files.{dump_for, wave_path};
-ghost use Rattle.lusdist_call.specs.Evaluated.{AreEvaluated, HasNoFaultBefore, IsShown, IsShownBefore, IsShownTo, IsStopped, IsStopFor, shown_text, wave_text};
+ghost use Rattle.lusdist_call.specs.Evaluated.{AreEvaluated, HasNoFaultBefore, IsShown, IsShownBefore, IsShownTo, IsStopped, IsStopFor, tabled_text, shown_text, wave_text};
 ghost use Rattle.lueval_lines.specs.declared.error.EvalError.TheVariants.{Fault};
 
 use lubase::Name;
 use lublock::block_outputs;
 use luchart::{chronogram, cut, dump};
 use lueval::{EvalError, whole_columns};
-use luflow::{FaultKind, Flat, Inputs, Outputs};
+use luflow::{Enum, FaultKind, Flat, Inputs, Outputs};
 use lusdist_call::{CallError, Refusal, Reply};
 use lusdist_shell::EvalRequest;
-use lutab::{shown_kinds, write_columns};
+use lutab::{shown_kinds, write_aligned, write_columns};
+use lutree::Kind;
 use std::alloc::{AllocError, Global};
 
 /// The name of the main variable in whose equation a fault stands.
@@ -121,6 +122,23 @@ fn columns_before(
     }
 }
 
+/// Columns of these types as a table, fields joined by commas or with its columns aligned.
+fn tabled_text(
+    alloc: Global,
+    aligned: bool,
+    types: &[Enum],
+    kinds: &[Kind],
+    columns: &Outputs,
+) -> Result<String, AllocError>
+    ensures { IfOk result (λ text. string_bytes text
+        ≡ tabled_text aligned types.now kinds.now columns.now) }
+{
+    if aligned {
+        return write_aligned(alloc, types, kinds, columns);
+    }
+    write_columns(alloc, types, kinds, columns)
+}
+
 /// The variables that a request asks for, in the form that it asks for.
 fn shown_text(
     alloc: Global,
@@ -142,7 +160,7 @@ fn shown_text(
             request.to,
         );
     }
-    write_columns(alloc, flat.types(), &kinds, columns)
+    tabled_text(alloc, request.aligned, flat.types(), &kinds, columns)
 }
 
 /// The dump of the variables that a request asks for.

@@ -1,10 +1,12 @@
 //! What a replay prints, of the files that it asks for.
 
-ghost use Rattle.std.specs.Prelude.{◌≡◌, ◌<◌, ℕ, List, IfOk, IfErr, string_bytes, option_map};
+ghost use Rattle.std.specs.Prelude.{◌≡◌, ◌++◌, ◌<◌, ℕ, List, IfOk, IfErr, length, string_bytes, option_map};
+ghost use Rattle.luworld.specs.Needs.{sites_of};
 ghost use Rattle.luweave.specs.Headline.{IsFaithful};
 ghost use Rattle.luweave_text.specs.Traced.{IsTraced};
 ghost use Rattle.lusdist_shell.specs.declared.request.Request.{Request};
-ghost use Rattle.lusdist_call.specs.Asked.{IsAskedFor, IsWorldOf, AreNotesOf};
+ghost use Rattle.lusdist_call.specs.Asked.{IsAskedFor, IsWorldOf};
+ghost use Rattle.lusdist_call.specs.Noted.{tracing_of, AreNotesOf, AreStandsOf, AreReplayNotes, warnings_of};
 ghost use Rattle.lusdist_call.specs.Answers.{IsPrinted, IsReplyTo};
 ghost use Rattle.lusdist_call.specs.Stopped.{IsReplayStopped};
 ghost use Rattle.lusdist_call.specs.declared.call_error.CallError.{CallError};
@@ -13,11 +15,11 @@ ghost use Rattle.lusdist_call.specs.declared.call_error.CallError.TheVariants.{O
 use crate::filing::dump_of_world;
 use crate::jobs::job_for;
 use crate::sources::turns_at;
-use luplace::Job;
+use luplace::{Job, Plan};
 use lusdist_call::{CallError, Reply};
 use lusdist_shell::{Files, ReplayRequest, TurnsForm};
 use luweave::{World, new_sites, replay};
-use luweave_text::{TraceForm, text_of_world, trace};
+use luweave_text::{TraceForm, Tracing, text_of_stands, text_of_stray, text_of_world, trace};
 use std::alloc::Global;
 
 /// The job of the files that a replay asks for, and its turns. They are read and refused in the order of the words.
@@ -57,42 +59,59 @@ pub fn replayed(alloc: Global, job: &Job, turns: &[u8], finish: bool) -> Result<
     Ok(world)
 }
 
-/// The world that the turns make of a job's new sites, and what each turn that moved did.
+/// The world that the turns make of a job's new sites, and what of them is reported.
 fn traced(
     alloc: Global,
     job: &Job,
     turns: &[u8],
     finish: bool,
-    form: TraceForm,
+    how: Tracing,
 ) -> Result<(World, String), CallError>
     ensures world { IfOk result (λ x. IsWorldOf job.now turns.now finish x.0) }
     ensures faithful { IfOk result (λ x. IsFaithful x.0.job x.0.dones) }
-    ensures notes { IfOk result (λ x. IsTraced job.now turns.now finish form x.0.dones
+    ensures notes { IfOk result (λ x. IsTraced job.now turns.now finish how x.0.dones
         (string_bytes x.1)) }
     ensures memory { IfErr result (λ stop. stop ≡ OutOfMemory) }
 {
     let sites = new_sites(alloc, job)?;
-    let (world, notes) = trace(alloc, job.plan(), sites, turns, finish, form)?;
+    let (world, notes) = trace(alloc, job.plan(), sites, turns, finish, how)?;
     Ok((world, notes))
+}
+
+/// How a request asks turns to be reported, in a form.
+fn tracing_of(request: ReplayRequest<'_>, form: TraceForm) -> Tracing
+    ensures { result ≡ tracing_of request.entry form }
+{
+    Tracing {
+        form,
+        messages: request.messages,
+        blocked: request.blocked,
+    }
 }
 
 /// The world that the turns make of a job's new sites, and the notes of these turns.
 fn noted(
     alloc: Global,
+    request: ReplayRequest<'_>,
     job: &Job,
     turns: &[u8],
-    finish: bool,
-    form: TurnsForm,
 ) -> Result<(World, String), CallError>
-    ensures world { IfOk result (λ x. IsWorldOf job.now turns.now finish x.0) }
+    ensures world { IfOk result (λ x. IsWorldOf job.now turns.now request.entry.finish x.0) }
     ensures faithful { IfOk result (λ x. IsFaithful x.0.job x.0.dones) }
-    ensures notes { IfOk result (λ x. AreNotesOf job.now turns.now finish form x.0.dones
-        (string_bytes x.1)) }
+    ensures notes { IfOk result (λ x. AreNotesOf job.now turns.now request.entry request.entry.turns
+        x.0.dones (string_bytes x.1)) }
     ensures memory { IfErr result (λ stop. stop ≡ OutOfMemory) }
 {
-    match form {
-        TurnsForm::Lines => traced(alloc, job, turns, finish, TraceForm::Lines),
-        TurnsForm::Chart => traced(alloc, job, turns, finish, TraceForm::Chart),
+    let finish = request.finish;
+    match request.turns {
+        TurnsForm::Lines => {
+            let how = tracing_of(request, TraceForm::Lines);
+            traced(alloc, job, turns, finish, how)
+        }
+        TurnsForm::Chart => {
+            let how = tracing_of(request, TraceForm::Chart);
+            traced(alloc, job, turns, finish, how)
+        }
         TurnsForm::Nothing => {
             let world = replayed(alloc, job, turns, finish)?;
             Ok((world, String::new(alloc)))
@@ -100,7 +119,48 @@ fn noted(
     }
 }
 
-/// What a replay of a job gives: the text of its world, the notes of its turns, and a dump, where the request asks for one.
+/// Adds what is warned of, where the request asks for words.
+fn put_warnings(
+    alloc: Global,
+    request: ReplayRequest<'_>,
+    job: &Job,
+    turns: &[u8],
+    notes: &mut String,
+) -> Result<(), CallError>
+    ensures warnings { IfOk result (λ _. string_bytes notes.new
+        ≡ string_bytes notes.old ++ warnings_of request.entry job.now turns.now) }
+    ensures memory { IfErr result (λ stop. stop ≡ OutOfMemory) }
+{
+    if request.explain {
+        let lines = text_of_stray(alloc, request.schedule, job.plan(), turns)?;
+        notes.push_str(lines.as_str())?;
+    }
+    Ok(())
+}
+
+/// Adds why the sites of a world stand still, where the request asks for words.
+fn put_stands(
+    alloc: Global,
+    request: ReplayRequest<'_>,
+    plan: &Plan,
+    world: &World,
+    notes: &mut String,
+) -> Result<(), CallError>
+    requires plan_is { world.now.job.plan ≡ plan.now }
+    requires all_sites { length world.now.dones ≡ sites_of plan.now }
+    ensures stands { IfOk result (λ _. (lines : List ℕ)
+        × AreStandsOf request.entry.explain world.now lines
+        × (string_bytes notes.new ≡ string_bytes notes.old ++ lines)) }
+    ensures memory { IfErr result (λ stop. stop ≡ OutOfMemory) }
+{
+    if request.explain {
+        let lines = text_of_stands(alloc, plan, world)?;
+        notes.push_str(lines.as_str())?;
+    }
+    Ok(())
+}
+
+/// What a replay of a job gives: the text of its world, its notes, and a dump, where the request asks for one.
 fn printed(
     alloc: Global,
     request: ReplayRequest<'_>,
@@ -112,7 +172,9 @@ fn printed(
         (option_map string_bytes reply.dump)) }
     ensures memory { IfErr result (λ stop. stop ≡ OutOfMemory) }
 {
-    let (world, notes) = noted(alloc, job, turns, request.finish, request.turns)?;
+    let (world, mut notes) = noted(alloc, request, job, turns)?;
+    put_warnings(alloc, request, job, turns, &mut notes)?;
+    put_stands(alloc, request, job.plan(), &world, &mut notes)?;
     let text = text_of_world(alloc, job.plan(), &world)?;
     let dump = dump_of_world(alloc, request, job.plan(), &world)?;
     Ok(Reply { text, notes, dump })

@@ -39,10 +39,11 @@ use Rattle.lusdist_shell.specs.declared.request.Request.TheVariants.{Check, Eval
 use Rattle.lusdist_shell.specs.declared.request.Request.TheVariants.{Run as AsksRun, Explain}
 use Rattle.lusdist_shell.specs.Request.{IsAskedBy}
 use Rattle.lusdist_call.specs.declared.reply.Reply.{Reply}
-use Rattle.lusdist_call.specs.Asked.{IsPlanFor, IsJobFor, IsAskedFor, IsWorldOf, AreNotesOf}
+use Rattle.lusdist_call.specs.Asked.{IsPlanFor, IsJobFor, IsAskedFor, IsWorldOf}
 use Rattle.lusdist_call.specs.Evaluated.{AreOutputsOf, IsEvaluated}
 use Rattle.lusdist_call.specs.Explained.{code_in, explanation}
 use Rattle.lusdist_call.specs.Files.{dump_for, replay_path, run_path}
+use Rattle.lusdist_call.specs.Noted.{AreReplayNotes}
 use Rattle.lusdist_call.specs.RunReportTexts.{run_report_text, IsReportedBy}
 use Rattle.lusdist_call.specs.Waved.{run_dump, IsWorldDump, AreSignalsTrue}
 
@@ -89,14 +90,14 @@ pub record IsPlanned (gives : FileFacts) (request : PlanRequest) (text notes : L
   pub notes_are : notes ≡ plan_notes request plan
 
 -- The world of a job after its turns, which keeps what the source says: its text, the notes of what the turns
--- did, and its dump.
+-- did and of why its sites stand still, and its dump.
 pub record IsPrinted (request : ReplayRequest) (job : JobView) (turns text notes : List ℕ)
     (dump : Option (List ℕ)) : Type 0 where
   pub world : WorldView
   pub world_is : IsWorldOf job turns request.finish world
   pub faithful : IsFaithful world.job world.dones
   pub text_is : IsWorldText world text
-  pub notes_are : AreNotesOf job turns request.finish request.turns world.dones notes
+  pub notes_are : AreReplayNotes request job turns world notes
   pub dump_is : IsWorldDump request.main.now world (replay_path request) dump
 
 -- What a replay of what a request asks for gives: text, notes and dump of the world of its job after its
@@ -147,11 +148,11 @@ IsReplyTo gives request reply =
     IsAnswer gives request (string_bytes reply.text) (string_bytes reply.notes)
     (option_map string_bytes reply.dump)
 
--- a request asks for nothing beside its answer: for no warnings, and for no turns
+-- a request asks for nothing beside its answer: for no warnings, and of a replay for no turns and no words
 abbrev pub IsQuiet : Request → Type 0
 IsQuiet (Check request) = request.warn ≡ false
 IsQuiet (Plan request) = request.warn ≡ false
-IsQuiet (Replay request) = request.turns ≡ Nothing
+IsQuiet (Replay request) = (request.turns ≡ Nothing) × (request.explain ≡ false)
 IsQuiet _ = Unit {0}
 
 -- so do the words

@@ -17,11 +17,7 @@ use Rattle.luflow.specs.Variables.{inputs_of}
 use Rattle.lutab.specs.Table.{IsTextOf, is_too_long}
 use Rattle.lusdist_shell.specs.ScheduleText.{schedule_of}
 use Rattle.lusdist_shell.specs.declared.request.ReplayRequest.{ReplayRequest}
-use Rattle.lusdist_shell.specs.declared.request.TurnsForm.{TurnsForm}
-use Rattle.lusdist_shell.specs.declared.request.TurnsForm.TheVariants as forms
 use Rattle.luworld.specs.WorldViews.{WorldView}
-use Rattle.luweave_text.specs.Traced.{IsTraced}
-use Rattle.luweave_text.specs.declared.form.TraceForm.TheVariants as traces
 use Rattle.luflow.specs.Tables.{FitsProgram}
 use Rattle.lusdist_shell.specs.Files.{FileFacts}
 
@@ -98,13 +94,6 @@ pub record IsWorldOf (job : JobView) (turns : List ℕ) (finish : Bool) (world :
   pub dones_are : world.dones ≡ reached (system_of job) (turns ++ more)
   pub no_more : finish ≡ false → more ≡ []
   pub quiet : finish ≡ true → NoTurnMoves (system_of job) world.dones
-
--- What a replay notes of its turns beside its answer: a line for each that moved, or a chart of them, where
--- that is asked for; else nothing.
-abbrev pub AreNotesOf : JobView → List ℕ → Bool → TurnsForm → List ℕ → List ℕ → Type 0
-AreNotesOf job turns finish forms.Lines dones notes = IsTraced job turns finish traces.Lines dones notes
-AreNotesOf job turns finish forms.Chart dones notes = IsTraced job turns finish traces.Chart dones notes
-AreNotesOf job turns finish forms.Nothing dones notes = notes ≡ []
 
 -- The plan of the program and the placement that the files of two paths gave. Its needs and links are all
 -- that its flows and sites make, and no others.

@@ -1,8 +1,10 @@
 -- What an evaluation prints and dumps, and what it says of a fault.
-use Rattle.std.specs.Prelude.{◌≡◌, ◌<◌, ℕ, false, List, [], map, Option, Some, None, slice_get}
+use Rattle.std.specs.Prelude.{◌≡◌, ◌<◌, ℕ, Bool, false, List, [], map, Option, Some, None, slice_get}
 use Rattle.std.specs.Prelude.{IsUtf8, if◌then◌else◌}
 use Rattle.lutree.specs.Tree.{ProgramTree}
+use Rattle.lutree.specs.declared.program.Kind.{Kind}
 use Rattle.luflow.specs.declared.form.FaultKind.{FaultKind}
+use Rattle.luflow.specs.declared.variable.Enum.{Enum}
 use Rattle.luflow.specs.declared.variable.Variable.{Variable}
 use Rattle.luflow.specs.Program.{FlatView, InputsView}
 use Rattle.luflow.specs.Streams.{Known, Streams}
@@ -18,6 +20,7 @@ use Rattle.lucore.specs.Result.{IsFlatOf}
 use Rattle.lueval.specs.Whole.{IsFirstFault, HasNoFault}
 use Rattle.lutab.specs.Table.{IsTextOf, is_too_long}
 use Rattle.lutab.specs.Outputs.{shown_of, kinds_of, column_text}
+use Rattle.lutab.specs.Aligned.{aligned_text}
 use Rattle.luchart.specs.Chronogram.{chart_text}
 use Rattle.luchart.specs.Dump.{dump_text}
 use Rattle.luflow.specs.Faults.{IsFault}
@@ -80,14 +83,19 @@ pub record AreEvaluated (flat : FlatView) (inputs : InputsView) (variables : Lis
   pub named : map (λ (c : OutputColumn). c.name) columns ≡ map (λ (x : Variable). x.name) variables
   pub each : (k : ℕ) (c : OutputColumn) → slice_get columns k ≡ Some c → IsColumnOf flat inputs n c
 
--- The variables that a request asks for, in the form that it asks for: as a table with a line for each
--- instant, or as a chart of the instants from one to another.
+-- a table with a line for each instant, fields joined by commas or with its columns aligned
+abbrev pub tabled_text : Bool → List Enum → List Kind → List OutputColumn → List ℕ
+tabled_text aligned types kinds columns =
+    if aligned then aligned_text types kinds columns else column_text types kinds columns
+
+-- The variables that a request asks for, in the form that it asks for: as a table, or as a chart of the
+-- instants from one to another.
 abbrev pub shown_text : EvalRequest → FlatView → List OutputColumn → List ℕ
 shown_text request flat columns =
     if request.chronogram
     then chart_text flat.types (kinds_of (shown_of request.all flat.variables)) columns request.from
     request.to
-    else column_text flat.types (kinds_of (shown_of request.all flat.variables)) columns
+    else tabled_text request.aligned flat.types (kinds_of (shown_of request.all flat.variables)) columns
 
 -- the dump of the variables that a request asks for
 abbrev pub wave_text : EvalRequest → FlatView → List OutputColumn → List ℕ

@@ -1,10 +1,10 @@
 -- What is wrong with words that the command line takes, and the line that reports it.
-use Rattle.std.specs.Prelude.{ℕ, List, ◌++◌, codes, Option, Some, None, nat_lt, if◌then◌else◌}
+use Rattle.std.specs.Prelude.{ℕ, Bool, List, ◌++◌, codes, Option, Some, None, nat_lt, if◌then◌else◌}
 use Rattle.std.specs.Fmt.{decimal}
 use Rattle.lusdist_shell.specs.declared.request.EvalRequest.{EvalRequest}
 use Rattle.lusdist_call.specs.declared.mistake.Mistake.{Mistake}
 use Rattle.lusdist_call.specs.declared.mistake.Mistake.TheVariants.{UnknownCode, NoChart, Backwards}
-use Rattle.lusdist_call.specs.declared.mistake.Mistake.TheVariants.{Overwritten}
+use Rattle.lusdist_call.specs.declared.mistake.Mistake.TheVariants.{Overwritten, TwoForms}
 use Rattle.lusdist_call.specs.declared.role.Role.{Role}
 use Rattle.lusdist_call.specs.declared.role.Role.TheVariants.{Program, Place, Table, Schedule}
 
@@ -23,6 +23,7 @@ line_of (Backwards from to) =
     codes "error: --from " ++ (decimal from ++ (codes " is after --to " ++ decimal to))
 line_of (Overwritten path role) =
     codes "error: --vcd " ++ (path ++ (codes " is the " ++ (role_text role ++ codes " of this call")))
+line_of TwoForms = codes "error: --text and --chronogram ask for two forms"
 
 -- instants are given for a chart alone
 abbrev pub chartless : Option ℕ → Option ℕ → Option Mistake
@@ -39,7 +40,11 @@ backwards None to = None
 backwards (Some from) None = None
 backwards (Some from) (Some to) = unordered from to
 
+-- a chart is no table with aligned columns
+abbrev pub charted : Bool → Option ℕ → Option ℕ → Option Mistake
+charted aligned from to = if aligned then Some TwoForms else backwards from to
+
 -- what is wrong with what an evaluation is asked for
 abbrev pub mistake_in : EvalRequest → Option Mistake
-mistake_in request = if request.chronogram then backwards request.from request.to
+mistake_in request = if request.chronogram then charted request.aligned request.from request.to
     else chartless request.from request.to

@@ -1,7 +1,7 @@
 //! What is wrong with words that the command line takes.
 
 ghost use Rattle.std.specs.Prelude.{◌≡◌};
-ghost use Rattle.lusdist_call.specs.Mistakes.{chartless, unordered, backwards, mistake_in};
+ghost use Rattle.lusdist_call.specs.Mistakes.{chartless, unordered, backwards, charted, mistake_in};
 
 use crate::role::Role;
 use lubase::Name;
@@ -20,6 +20,8 @@ pub enum Mistake {
     Backwards { from: u32, to: u32 },
     /// A dump would be written over a file of the call: its path, and what that file is to the call.
     Overwritten { path: Name, role: Role },
+    /// A table and a chart are asked for at once.
+    TwoForms,
 }
 
 impl fmt::Display for Mistake {
@@ -42,6 +44,7 @@ impl fmt::Display for Mistake {
                 "error: --vcd {} is the {role} of this call",
                 path.as_str()
             ),
+            Mistake::TwoForms => f.write_str("error: --text and --chronogram ask for two forms"),
         }
     }
 }
@@ -83,12 +86,23 @@ fn backwards(from: Option<u32>, to: Option<u32>) -> Option<Mistake>
     }
 }
 
+/// What is wrong with what a chart is asked for, beside a table with aligned columns or alone.
+fn charted(aligned: bool, from: Option<u32>, to: Option<u32>) -> Option<Mistake>
+    ensures { result ≡ charted aligned from to }
+{
+    if aligned {
+        Some(Mistake::TwoForms)
+    } else {
+        backwards(from, to)
+    }
+}
+
 /// What is wrong with what an evaluation is asked for.
 pub fn mistake_in(request: EvalRequest<'_>) -> Option<Mistake>
     ensures { result ≡ mistake_in request.entry }
 {
     if request.chronogram {
-        backwards(request.from, request.to)
+        charted(request.aligned, request.from, request.to)
     } else {
         chartless(request.from, request.to)
     }

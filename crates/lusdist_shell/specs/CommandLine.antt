@@ -50,12 +50,15 @@ instant_rule name = record (new_rule name) {
 abbrev pub vcd_rule : Rule
 vcd_rule = record (new_rule (codes "vcd")) { long = Some (codes "vcd"); value_names = 1 }
 
--- `eval PROGRAM TABLE [--main NAME] [--explain] [--short] [--all] [--chronogram] [--from T] [--to T] [--vcd FILE]`
+-- `eval PROGRAM TABLE [--main NAME] [--explain] [--short] [--all] [--text] [--chronogram] [--from T] [--to T]
+-- [--vcd FILE]`
 abbrev pub eval : App
 eval =
-    with_rule (with_rule (with_rule (with_rule (with_rule (with_rule (with_rule (judging (codes "eval"))
-    (flag_rule (codes "all"))) (flag_rule (codes "chronogram"))) (instant_rule (codes "from")))
-    (instant_rule (codes "to"))) vcd_rule) (path_rule (codes "PROGRAM"))) (path_rule (codes "TABLE"))
+    with_rule (with_rule
+    (with_rule (with_rule (with_rule (with_rule (with_rule (with_rule (judging (codes "eval"))
+    (flag_rule (codes "all"))) (flag_rule (codes "text"))) (flag_rule (codes "chronogram")))
+    (instant_rule (codes "from"))) (instant_rule (codes "to"))) vcd_rule) (path_rule (codes "PROGRAM")))
+    (path_rule (codes "TABLE"))
 
 -- `plan PROGRAM PLACE [--main NAME] [--explain] [--short] [--warn] [--text] [--dot]`
 abbrev pub plan : App
@@ -64,12 +67,14 @@ plan =
     (flag_rule (codes "text"))) (flag_rule (codes "dot"))) (path_rule (codes "PROGRAM")))
     (path_rule (codes "PLACE"))
 
--- `replay PROGRAM PLACE TABLE SCHEDULE [--main NAME] [--explain] [--short] [--finish] [--trace] [--chart] [--vcd FILE]`
+-- `replay PROGRAM PLACE TABLE SCHEDULE [--main NAME] [--explain] [--short] [--finish] [--trace] [--chart]
+-- [--messages] [--blocked] [--vcd FILE]`
 abbrev pub replay : App
 replay =
-    with_rule (with_rule
+    with_rule (with_rule (with_rule (with_rule
     (with_rule (with_rule (with_rule (with_rule (with_rule (with_rule (judging (codes "replay"))
-    (flag_rule (codes "finish"))) (flag_rule (codes "trace"))) (flag_rule (codes "chart"))) vcd_rule)
+    (flag_rule (codes "finish"))) (flag_rule (codes "trace"))) (flag_rule (codes "chart")))
+    (flag_rule (codes "messages"))) (flag_rule (codes "blocked"))) vcd_rule)
     (path_rule (codes "PROGRAM"))) (path_rule (codes "PLACE"))) (path_rule (codes "TABLE")))
     (path_rule (codes "SCHEDULE"))
 

@@ -90,6 +90,7 @@ pub record IsEvalIn (command : Option (Text × List Row)) (request : EvalRequest
   pub from : IsInstantIn (first_of (codes "from") matches) request.from
   pub to : IsInstantIn (first_of (codes "to") matches) request.to
   pub vcd : option_map (λ s. s.now) request.vcd ≡ first_of (codes "vcd") matches
+  pub aligned : request.aligned ≡ is_given matches (codes "text")
 
 -- The command is `plan`, and the request is what its matches hold, argument by argument.
 pub record IsPlanIn (command : Option (Text × List Row)) (request : PlanRequest) : Type 0 where
@@ -117,6 +118,8 @@ pub record IsReplayIn (command : Option (Text × List Row)) (request : ReplayReq
   pub finish : request.finish ≡ is_given matches (codes "finish")
   pub turns : request.turns ≡ turns_in matches
   pub vcd : option_map (λ s. s.now) request.vcd ≡ first_of (codes "vcd") matches
+  pub messages : request.messages ≡ is_given matches (codes "messages")
+  pub blocked : request.blocked ≡ is_given matches (codes "blocked")
 
 -- The command is `run`, and the request is what its matches hold, argument by argument.
 pub record IsRunIn (command : Option (Text × List Row)) (request : RunRequest) : Type 0 where

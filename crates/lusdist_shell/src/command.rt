@@ -60,6 +60,12 @@ const EXPLAIN: Argument<'static> = Argument::Flag {
     help: "Where a text is refused, shows its line and says what is wrong and how to mend it",
 };
 
+/// The same of a replay, and whether it says why its sites stand still.
+const EXPLAIN_SITES: Argument<'static> = Argument::Flag {
+    name: "explain",
+    help: "Where a text is refused, shows its line and says what is wrong and how to mend it; else says for each open site what it waits for",
+};
+
 /// Whether a refusal is reported in one line.
 const SHORT: Argument<'static> = Argument::Flag {
     name: "short",
@@ -82,6 +88,12 @@ const WARN: Argument<'static> = Argument::Flag {
 const ALL: Argument<'static> = Argument::Flag {
     name: "all",
     help: "Prints all variables of the main node in place of its outputs alone",
+};
+
+/// Whether the table of an evaluation has its columns aligned.
+const ALIGNED: Argument<'static> = Argument::Flag {
+    name: "text",
+    help: "Prints the table for a terminal, with blanks in place of commas and its columns aligned",
 };
 
 /// Whether an evaluation is reported as a chart.
@@ -142,6 +154,18 @@ const CHART: Argument<'static> = Argument::Flag {
     help: "Draws the same there: a column for each site, a row for each turn, also beside --trace",
 };
 
+/// Whether a replay says of its turns only those that pass a message.
+const MESSAGES: Argument<'static> = Argument::Flag {
+    name: "messages",
+    help: "Beside --trace or --chart: only the turns that put or take a message",
+};
+
+/// Whether a replay says of its turns those too that didn't move.
+const BLOCKED: Argument<'static> = Argument::Flag {
+    name: "blocked",
+    help: "Beside --trace or --chart: also the turns that found no room or no message",
+};
+
 /// Whether a run says how far it has come.
 const PROGRESS: Argument<'static> = Argument::Flag {
     name: "progress",
@@ -169,6 +193,7 @@ const TASKS: [Task<'static>; 6] = [
             EXPLAIN,
             SHORT,
             ALL,
+            ALIGNED,
             CHRONOGRAM,
             FROM,
             TO,
@@ -196,11 +221,13 @@ const TASKS: [Task<'static>; 6] = [
         about: "Runs a program at several sites, turn by turn, and prints links, sites and outputs",
         arguments: &[
             Argument::Main,
-            EXPLAIN,
+            EXPLAIN_SITES,
             SHORT,
             FINISH,
             TRACE,
             CHART,
+            MESSAGES,
+            BLOCKED,
             SITE_VCD,
             PROGRAM,
             PLACE,

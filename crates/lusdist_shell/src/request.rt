@@ -51,6 +51,8 @@ pub struct EvalRequest<'a> {
     pub to: Option<u32>,
     /// The path of the file that a dump goes into, where one is asked for.
     pub vcd: Option<&'a str>,
+    /// Whether the columns of the table are aligned.
+    pub aligned: bool,
 }
 
 /// How a plan is reported.
@@ -117,6 +119,10 @@ pub struct ReplayRequest<'a> {
     pub turns: TurnsForm,
     /// The path of the file that a dump of its outputs goes into, where one is asked for.
     pub vcd: Option<&'a str>,
+    /// Whether of the turns that move those alone are reported that put or take a message.
+    pub messages: bool,
+    /// Whether the turns are reported too that found no room or no message.
+    pub blocked: bool,
 }
 
 /// What a run is asked of.
@@ -237,6 +243,7 @@ fn eval_in<'a>(matches: &ArgMatches<'a>) -> EvalRequest<'a>
         from: instant_in(matches, "from"),
         to: instant_in(matches, "to"),
         vcd: vcd_in(matches),
+        aligned: is_given(matches, "text"),
     }
 }
 
@@ -296,6 +303,8 @@ fn replay_in<'a>(matches: &ArgMatches<'a>) -> ReplayRequest<'a>
         finish: is_given(matches, "finish"),
         turns: turns_in(matches),
         vcd: vcd_in(matches),
+        messages: is_given(matches, "messages"),
+        blocked: is_given(matches, "blocked"),
     }
 }
 

@@ -9,3 +9,4 @@ pub mod Texts
 mod Rowwise
 pub mod Joins
 mod Written
+mod Placing

@@ -5,3 +5,4 @@ pub mod Lines
 pub mod Text
 pub mod Buffers
 pub mod Outputs
+pub mod Aligned

@@ -19,8 +19,10 @@
 //! - [`write_outputs`] writes the text of a table of outputs, and [`write_columns`] that of any main variables'
 //!   columns, by the types that [`shown_kinds`] gives; [`put_datum`] writes one value, and [`put_comma`] what stands
 //!   before a field.
+//! - [`write_aligned`] writes the text of such columns with their fields at the right of their columns.
 #![tactic(auto)]
 
+mod aligned;
 mod error;
 mod field;
 mod reading;
@@ -28,6 +30,7 @@ mod row;
 mod rows;
 mod writing;
 
+pub use aligned::write_aligned;
 pub use error::TabError;
 pub use reading::read_inputs;
 pub use writing::{put_comma, put_datum, shown_kinds, write_columns, write_outputs};

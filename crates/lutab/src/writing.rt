@@ -44,7 +44,7 @@ pub fn put_datum(out: &mut String, names: &[Name], datum: Datum) -> Result<(), A
     }
 }
 
-fn put_status(out: &mut String, names: &[Name], status: Status) -> Result<(), AllocError>
+pub(crate) fn put_status(out: &mut String, names: &[Name], status: Status) -> Result<(), AllocError>
     ensures { OnOk result (string_bytes out.new
         ≡ string_bytes out.old ++ status_text names.now status) }
 {
@@ -55,7 +55,7 @@ fn put_status(out: &mut String, names: &[Name], status: Status) -> Result<(), Al
 }
 
 /// The names of the type of this number among these.
-fn names_at<'a>(types: &'a [Enum], kinds: &[Kind], i: usize) -> &'a [Name]
+pub(crate) fn names_at<'a>(types: &'a [Enum], kinds: &[Kind], i: usize) -> &'a [Name]
     ensures { result.now ≡ names_in types.now kinds.now i }
 {
     match kinds.get(i) {

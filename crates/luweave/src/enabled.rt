@@ -21,8 +21,8 @@ fn number_of(sites: &Vec<Site>, s: usize) -> u8
 }
 
 impl World {
-    /// Whether a turn of the site would move.
-    fn would_move(&self, s: usize) -> bool
+    /// Whether a turn of the site would move. Takes no memory.
+    pub fn would_move(&self, s: usize) -> bool
         requires { s < length self.now.dones }
         ensures { (result ≡ true) ↔ (turn (system_of self.now.job) self.now.dones s ≡ Turn.Moved) }
     {

@@ -1,5 +1,5 @@
--- Turns as a chart: a column for each site, and a row for each turn that moves, with an arrow for a message
--- that is put.
+-- Turns as a chart: a column for each site, and a row for each turn that is reported, with an arrow for a
+-- message that is put.
 --
 --     turn  A                     B
 --        0  compute               |
@@ -12,10 +12,8 @@ use Rattle.std.specs.List.{range_with_len}
 use Rattle.luworld.specs.declared.link.Link.{Link}
 use Rattle.luworld.specs.Needs.{PlanView}
 use Rattle.luworld.specs.Systems.{Item, Compute, Puts, Takes}
-use Rattle.luworld.specs.WorldViews.{WorldView}
 use Rattle.luchart.specs.Pieces.{at_right, filled}
 use Rattle.luweave_text.specs.WorldText.{site_name}
-use Rattle.luweave_text.specs.Items.{item_text}
 
 -- how wide a column is, and the numbers before the columns
 abbrev pub column_width : ℕ
@@ -71,14 +69,10 @@ row sites n s t word =
     at_right number_width (decimal n) ++ (codes "  " ++ (flat_map (cell sites s t word)
     (range_with_len 0 sites) ++ codes "\n"))
 
--- the row of what a site does next, where so many rows stand before
-abbrev pub item_row : WorldView → ℕ → ℕ → Item → List ℕ
-item_row w n s item = row (length w.job.plan.names) n s (target_of w.job.plan s item) (item_text w s item)
-
--- the same as far as the chart goes
-abbrev pub chart_line : WorldView → ℕ → ℕ → Item → List ℕ
-chart_line w n s item = if nat_lt n most_rows then item_row w n s item
-    else (if nat_eq n most_rows then codes "..\n" else [])
+-- a row as far as the chart goes, where so many stand before
+abbrev pub chart_line : ℕ → List ℕ → List ℕ
+chart_line shown line = if nat_lt shown most_rows then line
+    else (if nat_eq shown most_rows then codes "..\n" else [])
 
 -- the names of the sites over their columns
 abbrev pub named : List (List ℕ) → ℕ → List ℕ

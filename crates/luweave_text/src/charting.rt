@@ -1,4 +1,4 @@
-//! Turns as a chart: a column for each site, a row for each turn that moves, and an arrow for a message that is put.
+//! Turns as a chart: a column for each site, a row for each turn that is reported, and an arrow for a message that is put.
 
 ghost use Rattle.std.specs.Prelude.{◌≡◌, ◌<◌, Some, flat_map, length, slice_get};
 ghost use Rattle.std.specs.List.{range_with_len};
@@ -6,10 +6,9 @@ ghost use Rattle.luworld.specs.Systems.{Item, done, next_item};
 ghost use Rattle.luworld.specs.Jobs.{system_of};
 ghost use Rattle.lusite.specs.Machine.{IsNext};
 ghost use Rattle.luweave_text.specs.WorldText.{Adds};
-ghost use Rattle.luweave_text.specs.Charted.{cell, chart_line, crosses, filler, heading, item_row, mark, named, own_blank, receiver_of, row, target_of, word_in};
+ghost use Rattle.luweave_text.specs.Charted.{cell, chart_line, crosses, filler, heading, mark, named, own_blank, receiver_of, row, target_of, word_in};
 
-use crate::text::site_name;
-use crate::tracing::put_item;
+use crate::counts::Counts;
 use lubase::Name;
 use luchart::pieces::{put_copies, put_right};
 use luplace::Plan;
@@ -36,7 +35,7 @@ fn receiver_of(plan: &Plan, link: LinkNo, site: u8) -> u8
 }
 
 /// The site that the message of what a site does next goes to; the site itself where none is put.
-fn target_of(plan: &Plan, world: &World, site: u8, next: Next) -> u8
+pub(crate) fn target_of(plan: &Plan, world: &World, site: u8, next: Next) -> u8
     requires plan_is { world.now.job.plan ≡ plan.now }
     requires next { IsNext world.now.job site (done world.now.dones site) next }
     ensures { (item : Item) → next_item (system_of world.now.job) world.now.dones site ≡ Some item
@@ -146,7 +145,7 @@ fn put_row(
     alloc: Global,
     text: &mut String,
     sites: usize,
-    number: usize,
+    number: u64,
     site: u8,
     target: u8,
     word: &str,
@@ -160,54 +159,23 @@ fn put_row(
     text.push_str("\n")
 }
 
-/// Adds the row of what a site does next.
-fn put_item_row(
-    alloc: Global,
-    text: &mut String,
-    plan: &Plan,
-    world: &World,
-    number: usize,
-    site: u8,
-    next: Next,
-) -> Result<(), AllocError>
-    requires plan_is { world.now.job.plan ≡ plan.now }
-    requires next { IsNext world.now.job site (done world.now.dones site) next }
-    ensures { (item : Item) → next_item (system_of world.now.job) world.now.dones site ≡ Some item
-        → Adds result text.old text.new (item_row world.now number site item) }
-{
-    let target = target_of(plan, world, site, next);
-    let mut word = String::new(alloc);
-    put_item(&mut word, plan, world, site, next)?;
-    put_row(
-        alloc,
-        text,
-        plan.sites().len(),
-        number,
-        site,
-        target,
-        word.as_str(),
-    )
-}
-
-/// Adds the row of what a site does next, as far as the chart goes: behind its last row a line says that there are more.
+/// Adds a row as far as the chart goes, behind so many others: behind its last row a line says that there are more.
 pub(crate) fn put_chart_line(
     alloc: Global,
     text: &mut String,
-    plan: &Plan,
-    world: &World,
-    number: usize,
+    sites: usize,
+    counts: Counts,
     site: u8,
-    next: Next,
+    target: u8,
+    word: &str,
 ) -> Result<(), AllocError>
-    requires plan_is { world.now.job.plan ≡ plan.now }
-    requires next { IsNext world.now.job site (done world.now.dones site) next }
-    ensures { (item : Item) → next_item (system_of world.now.job) world.now.dones site ≡ Some item
-        → Adds result text.old text.new (chart_line world.now number site item) }
+    ensures { Adds result text.old text.new
+        (chart_line counts.shown (row sites counts.moved site target word.now)) }
 {
-    if number < MOST_ROWS {
-        return put_item_row(alloc, text, plan, world, number, site, next);
+    if counts.shown < MOST_ROWS {
+        return put_row(alloc, text, sites, counts.moved, site, target, word);
     }
-    if number == MOST_ROWS {
+    if counts.shown == MOST_ROWS {
         return text.push_str("..\n");
     }
     Ok(())

@@ -19,4 +19,6 @@ returns-clause-asked c = record {
   finish = refl;
   turns = refl;
   vcd = refl;
+  messages = refl;
+  blocked = refl;
 }

@@ -1,10 +1,10 @@
-use Rattle.std.proofs.Common.{string_bytes}
+use Rattle.std.proofs.Common.{[], ◌∷◌, ◌++◌, ap, ◌∙◌}
 use Rattle.std.specs.Prelude.{slice_get}
-use Rattle.luplace_report.specs.Table.{link_row, row_of}
-use Rattle.luplace_report.proofs.Ranges.{text_more}
+use Rattle.luplace_report.specs.Table.{cells_of, link_cells}
+use Rattle.luplace_report.proofs.Aligning.{made_more}
 use Rattle.luplace_report.proofs.table.put_links.Goals as goal
 
 pub loop-number-preserved : goal.loop-number-preserved
 loop-number-preserved c =
     let plan = c.args.plan.now in
-    text_more (λ n. row_of (link_row plan n) (slice_get plan.links n)) c.loop-number.number (string_bytes c.args.text.now) (string_bytes c.loop-number.text) (string_bytes c.put_link_of.new.text) c.loop-number.invariant c.in_ok-put_link_of.ensures
+    made_more (λ n. cells_of (link_cells plan n) (slice_get plan.links n)) c.loop-number.number c.args.rows.now.items c.loop-number.rows.items c.push.new.self.items c.loop-number.invariant (c.in_ok-push.ensures.items ∙ ap (λ r. c.loop-number.rows.items ++ r ∷ []) c.in_ok-link_cells_at.ensures)

@@ -7,7 +7,7 @@ use Rattle.lutree.specs.Tree.{program_view}
 use Rattle.std.proofs.lemmas.Result.{err_from_is_err_and}
 use Rattle.lusdist_call.specs.Stopped.HasNoFlat.{unspelled, unruled}
 use Rattle.lusdist_call.specs.Stopped.StopsAtProgram.{program_unread, program_refused}
-use Rattle.lusdist_call.specs.Stopped.IsCheckStopped.{check_memory, check_program}
+use Rattle.lusdist_call.specs.Stopped.IsCheckStopped.{check_program}
 use Rattle.lusdist_answers.proofs.answering.check_answer.Goals as goal
 
 pub returns-clause-reply : goal.returns-clause-reply

@@ -1,4 +1,4 @@
-use Rattle.std.proofs.Common.{true, sym, subst, ◌∙◌}
+use Rattle.std.proofs.Common.{sym, subst}
 use Rattle.std.proofs.lemmas.Result.{IfOk-weaker}
 use Rattle.lustat_warn.specs.Warnings.{AreWarnings}
 use Rattle.lusdist_call.specs.Answers.AreCheckNotes.{warned}

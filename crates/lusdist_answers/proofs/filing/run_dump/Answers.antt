@@ -2,11 +2,9 @@ use Rattle.std.proofs.Common.{◌∙◌, ap, ap₂, List, false}
 use Rattle.std.proofs.lemmas.Result.{IfOk-weaker}
 use Rattle.luflow.specs.declared.variable.Enum.{Enum}
 use Rattle.luflow.specs.declared.variable.Variable.{Variable}
-use Rattle.luflow.specs.Tables.{OutputColumn}
 use Rattle.lutree.specs.declared.program.Kind.{Kind}
 use Rattle.lutab.specs.Outputs.{kinds_of, shown_of}
-use Rattle.luchart.specs.declared.signal.Signal.{Signal as Borrowed}
-use Rattle.luchart.specs.Signals.{Signal, signals_of, signals_view}
+use Rattle.luchart.specs.Signals.{signals_of, signals_view}
 use Rattle.luweave_text.specs.Waves.{site_dump}
 use Rattle.luflow.specs.Program.{FlatView}
 use Rattle.lusdist_answers.proofs.filing.run_dump.Goals as goal

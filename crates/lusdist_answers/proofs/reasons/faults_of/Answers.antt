@@ -1,8 +1,5 @@
 use Rattle.std.proofs.Common.{◌≡◌, ◌≢◌, ℕ, List, [], length, Some, sym, subst, ap, ◌∙◌, arith}
 use Rattle.std.specs.Prelude.{◌==◌}
-use Rattle.lutree.specs.Places.{places_view}
-use Rattle.lutree.specs.Tree.{program_view}
-use Rattle.lustat_rules.specs.declared.error.StatError.{StatError}
 use Rattle.lusdist_call.specs.Reasons.{AreFaultsAt, program_path}
 use Rattle.lusdist_answers.proofs.Tellings.{not_empty}
 use Rattle.lusdist_answers.proofs.reasons.faults_of.Goals as goal

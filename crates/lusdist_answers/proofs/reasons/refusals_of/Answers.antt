@@ -1,6 +1,6 @@
 use Rattle.std.proofs.Common.{◌≡◌, ℕ, List, length, Some, sym, subst, ap, ◌∙◌, arith}
 use Rattle.std.specs.Prelude.{◌==◌}
-use Rattle.lusdist_call.specs.Reasons.{AreRefusalsAt, program_path}
+use Rattle.lusdist_call.specs.Reasons.{AreRefusalsAt}
 use Rattle.lusdist_answers.proofs.Tellings.{some_refusals}
 use Rattle.lusdist_answers.proofs.reasons.refusals_of.Goals as goal
 

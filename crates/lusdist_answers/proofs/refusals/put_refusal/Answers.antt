@@ -1,4 +1,4 @@
-use Rattle.std.proofs.Common.{ℕ, List, sym, subst, ◌∙◌}
+use Rattle.std.proofs.Common.{sym, subst, ◌∙◌}
 use Rattle.lusdist_shell.specs.Sinks.{HasPut}
 use Rattle.lusdist_call.specs.Reasons.IsRefusalText.{one, each, places}
 use Rattle.lusdist_answers.proofs.refusals.put_refusal.Goals as goal

@@ -22,4 +22,4 @@ pub returns-clause-notes : goal.returns-clause-notes
 returns-clause-notes c =
     let world = c.in_ok-world.world in
     let same : world.job ≡ c.args.job.now = world_job c.args.job.now.plan c.in_ok-sites.sites.items world.job c.args.job.now c.in_ok-sites.ensures.new c.in_ok-world.ensures.job c.in_ok-sites.ensures.job in
-    subst (λ (j : JobView). IsTraced j c.args.turns.now c.args.finish c.args.form world.dones (string_bytes c.in_ok-world.notes)) same c.in_ok-world.ensures.traced
+    subst (λ (j : JobView). IsTraced j c.args.turns.now c.args.finish c.args.how world.dones (string_bytes c.in_ok-world.notes)) same c.in_ok-world.ensures.traced

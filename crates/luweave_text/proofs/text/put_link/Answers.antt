@@ -1,4 +1,4 @@
-use Rattle.std.proofs.Common.{◌≡◌, ◌∙◌, ℕ, List, ap, subst}
+use Rattle.std.proofs.Common.{◌∙◌, ℕ, List, ap, subst}
 use Rattle.luflow.specs.Program.{FlatView}
 use Rattle.luflow.specs.Types.{variable_names}
 use Rattle.luflow.specs.Variables.{variable_name}

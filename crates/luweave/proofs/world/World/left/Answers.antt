@@ -33,10 +33,15 @@ loop-s-preserved c =
     let v = some_at a.sites.items c.loop-s.s (omega (arith, c.len-s-end.ensures, c.loop-s-test.true)) in
     let more = along (IsMore c.loop-s.s c.left_at-total.result) c.args.self.now (record { job = j; dones = dones_of a.sites.items }) c.self.view_is
     (left_more j a.sites.items a.link_queues.items a.capacity c.self.invariant c.loop-s.s v.0 c.left_at-total.result v.1 (c.left_at-total.ensures.left v.0 v.1)) in
+    let few = sites_few j a.sites.items a.link_queues.items a.capacity c.self.invariant c.loop-s.s v.0 v.1 (c.left_at-total.ensures.run v.0 v.1) in
     record {
       sum = omega (arith, more, c.loop-s.invariant.sum);
       few = omega (arith, c.left_at-total.ensures.few, c.loop-s.invariant.few);
+      sites = omega (arith, few, c.len-s-end.ensures, c.loop-s-test.true);
     }
+
+pub returns-clause-few : goal.returns-clause-few
+returns-clause-few c = omega (arith, c.loop-s.invariant.few, c.loop-s.invariant.sites)
 
 -- what the sum over all sites is
 whole : (x : WorldView) (s total : ℕ) → total ≡ first_left s x → s ≡ sites_of x.job.plan → total ≡ left_of x.job x.dones

@@ -9,4 +9,5 @@ abbrev pub invariant-loop-s : goal.invariant-loop-s
 invariant-loop-s l = record {
   sum : l.total ≡ total_below (left_at (outline l.self.job (streams_of l.self.job)) l.self.dones) l.s;
   few : l.total ≤ most_left * l.s;
+  sites : l.s ≤ 16;
 }
