@@ -17,13 +17,14 @@ _lusdist() {
             esac
             ;;
         eval)
-            flags='--main --explain --short --all --text --chronogram --from --to --vcd --help'
+            flags='--main --explain --short --all --text --chronogram --from --to --vcd --always --help'
             endings=(lus csv)
             case $before in
                 --main) COMPREPLY=(); return ;;
                 --from) COMPREPLY=(); return ;;
                 --to) COMPREPLY=(); return ;;
                 --vcd) COMPREPLY=($(compgen -f -- "$word")); return ;;
+                --always) COMPREPLY=(); return ;;
             esac
             ;;
         plan)
@@ -34,25 +35,27 @@ _lusdist() {
             esac
             ;;
         replay)
-            flags='--main --explain --short --finish --trace --chart --messages --blocked --vcd --help'
+            flags='--main --explain --short --finish --trace --chart --messages --blocked --vcd --always --help'
             endings=(lus toml csv '')
             case $before in
                 --main) COMPREPLY=(); return ;;
                 --vcd) COMPREPLY=($(compgen -f -- "$word")); return ;;
+                --always) COMPREPLY=(); return ;;
             esac
             ;;
         run)
-            flags='--main --explain --short --workers --progress --items --vcd --help'
+            flags='--main --explain --short --workers --progress --items --vcd --always --help'
             endings=(lus toml csv)
             case $before in
                 --main) COMPREPLY=(); return ;;
                 --workers) COMPREPLY=($(compgen -W "$(seq 1 16)" -- "$word")); return ;;
                 --vcd) COMPREPLY=($(compgen -f -- "$word")); return ;;
+                --always) COMPREPLY=(); return ;;
             esac
             ;;
         explain)
             flags='--help'
-            words='F01 F02 E01 E02 E03 E04 E05 E10 E11 E12 E13 E14 E15 E16 E17 E18 E19 E20 E21 E22 E23 E30 E31 E40 E50 P01 P02 P03 P04 P05 P06 P07 P08 T01 T02 T03 T04 S01 S02 R1 R2 R3 R4'
+            words='F01 F02 E01 E02 E03 E04 E05 E10 E11 E12 E13 E14 E15 E16 E17 E18 E19 E20 E21 E22 E23 E30 E31 E40 E50 P01 P02 P03 P04 P05 P06 P07 P08 T01 T02 T03 T04 S01 S02 R1 A1 R2 R3 R4'
             ;;
         help)
             words='check eval plan replay run explain'
@@ -68,7 +71,7 @@ _lusdist() {
     fi
     for ((i = 2; i < COMP_CWORD; i++)); do
         case ${COMP_WORDS[i]} in
-            --from|--main|--to|--vcd|--workers) i=$((i + 1)) ;;
+            --always|--from|--main|--to|--vcd|--workers) i=$((i + 1)) ;;
             -*) ;;
             *) place=$((place + 1)) ;;
         esac

@@ -42,4 +42,5 @@ pub(crate) const OUTPUTS: EvalRequest<'static> = EvalRequest {
     to: None,
     vcd: None,
     aligned: false,
+    always: &[],
 };

@@ -50,6 +50,7 @@ fn asked() -> ReplayRequest<'static>
         vcd: None,
         messages: false,
         blocked: false,
+        always: &[],
     }
 }
 

@@ -1,5 +1,5 @@
 -- What the end of a call says.
-use Rattle.std.proofs.Common.{◌≡◌, ◌≢◌, ◌⊎◌, ℕ, Bool, true, false, cond, List, [], ◌++◌, subst, refl, sym, ap, ap₂, ◌∙◌, inl, inr, arith}
+use Rattle.std.proofs.Common.{◌≡◌, ◌≢◌, ◌⊎◌, ℕ, Bool, true, false, cond, List, [], ◌∷◌, ◌++◌, subst, refl, sym, ap, ap₂, ◌∙◌, inl, inr, arith}
 use Rattle.std.specs.Io.KnownBytes.{Appends}
 use Rattle.clap.specs.declared.error.kind.ErrorKind.{ErrorKind}
 use Rattle.clap.specs.declared.error.kind.ErrorKind.TheVariants as clap
@@ -29,14 +29,15 @@ use Rattle.luworld.specs.WorldViews.{WorldView}
 use Rattle.lusdist_shell.specs.declared.request.CheckRequest.{CheckRequest}
 use Rattle.lusdist_call.specs.Noted.{AreNotesOf, AreStandsOf, AreReplayNotes}
 use Rattle.lusdist_call.specs.Files.{IsUnfiled}
-use Rattle.lusdist_call.specs.Statuses.{status_of}
+use Rattle.lusdist_call.specs.Statuses.{status_of, status_beside}
+use Rattle.lusdist_call.specs.Violations.{has_lines}
 use Rattle.lusdist_call.specs.Stopped.{IsRefusal}
 use Rattle.lusdist_call.specs.Left.{Streams, HasError, IsEnded, IsHelp, IsCallEnded}
 use Rattle.lusdist_call.specs.Left.IsEnded.{answered, refused, undumped, unwritten}
 use Rattle.lusdist_call.specs.Left.IsCallEnded.{overwriting, shut, no_memory}
 use Rattle.lusdist_call.specs.Lines.{line_of}
 use Rattle.lusdist_call.specs.Targets.{IsDumpRefused, AskOver}
-use Rattle.lusdist_call.specs.declared.mistake.Mistake.TheVariants.{UnknownCode, NoChart, Backwards, Overwritten, TwoForms}
+use Rattle.lusdist_call.specs.declared.mistake.Mistake.TheVariants.{UnknownCode, NoChart, Backwards, Overwritten, TwoForms, Unobserved}
 use Rattle.clap.specs.Words.{fault_of}
 use Rattle.lusdist_shell.specs.CommandLine.{lusdist}
 use Rattle.lusdist_shell.specs.Files.{FileFacts}
@@ -80,14 +81,36 @@ no_replay_notes request job turns w notes quiet wordless are =
     let no_warnings = ap (λ (b : Bool). cond b (stray_text request.schedule.now (sites_of job.plan) turns) []) wordless in
     are.notes_are ∙ ap₂ (λ (xs ys : List ℕ). xs ++ ys) none (ap₂ (λ (xs ys : List ℕ). xs ++ ys) no_warnings no_sites)
 
--- where neither warnings nor turns nor words are to be reported there are no notes
-no_notes : (gives : FileFacts) (request : Request) (text notes : List ℕ) (dump : Option (List ℕ)) → IsQuiet request → IsAnswer gives request text notes dump → notes ≡ []
+-- where nothing is violated, nothing is told
+none_told : (told : List ℕ) → false ≡ has_lines told → told ≡ []
+none_told [] h = refl
+none_told (b ∷ bs) h = absurd cc
+
+-- where neither warnings nor turns nor words are to be reported and nothing is violated there are no notes
+no_notes : (gives : FileFacts) (request : Request) (text notes : List ℕ) (dump : Option (List ℕ)) → IsQuiet request → IsAnswer gives request text notes false dump → notes ≡ []
 no_notes gives (Check request) text notes dump quiet is = no_check_notes request is.0.program notes quiet is.0.notes_are
-no_notes gives (Eval request) text notes dump quiet is = is.1
+no_notes gives (Eval request) text notes dump quiet is = none_told notes is.1
 no_notes gives (Plan request) text notes dump quiet is = is.0.notes_are ∙ ap (λ (b : Bool). cond b (idle_text request.place.now is.0.plan) []) quiet
-no_notes gives (Run request) text notes dump quiet is = is.1
-no_notes gives (Explain request) text notes dump quiet is = is.1.0
-no_notes gives (Replay request) text notes dump quiet is = no_replay_notes request is.job is.turns is.printed.world notes quiet.0 quiet.1 is.printed.notes_are
+no_notes gives (Run request) text notes dump quiet is = none_told notes is.1
+no_notes gives (Explain request) text notes dump quiet is = is.1
+no_notes gives (Replay request) text notes dump quiet is =
+    let did = no_replay_notes request is.job is.turns is.printed.world is.printed.did quiet.0 quiet.1 is.printed.did_are in
+    is.printed.notes_is ∙ ap₂ (λ (a b : List ℕ). a ++ b) did (none_told is.printed.told is.printed.violated_is)
+
+-- the status of an answer
+calm : (violated : Bool) → status_beside violated ≡ 0 → violated ≡ false
+calm true e = absurd (omega (arith, e))
+calm false e = refl
+
+beside_some : (violated : Bool) → (status_beside violated ≡ 0) ⊎ (status_beside violated ≡ 3)
+beside_some true = inr refl
+beside_some false = inl refl
+
+never_small : (violated : Bool) (n : ℕ) → (n ≡ 1) ⊎ (n ≡ 2) → status_beside violated ≡ n → ⊥
+never_small violated n small e = elim (beside_some violated) [
+  | inl zero ↦ elim small [ inl one ↦ absurd (omega (arith, e, zero, one)) | inr two ↦ absurd (omega (arith, e, zero, two)) ]
+  | inr three ↦ elim small [ inl one ↦ absurd (omega (arith, e, three, one)) | inr two ↦ absurd (omega (arith, e, three, two)) ]
+]
 
 -- a refusal has one of three statuses
 pub status_some : (stop : CallError) → (status_of stop ≡ 1) ⊎ ((status_of stop ≡ 2) ⊎ (status_of stop ≡ 3))
@@ -152,32 +175,35 @@ never_done stop e = elim (status_some stop) [
 module _ {W V : Type 0} (gives : FileFacts) (words : List (List ℕ)) (request : Request) (asked : IsAskedBy words request) (status : ℕ) (wrote : List Written) (streams : Streams W V) where
   -- where what is asked for is done, the answer is on the output
   pub done : IsEnded gives request status wrote streams → status ≡ 0 → (text : List ℕ) × IsDone gives words text × Appends (streams.held_out streams.out.writer) (streams.held_out streams.out_after.writer) text
-  done (answered text notes dump e answer are out) zero = (text, record { request = request; asked = asked; notes = notes; dump = dump; answer = answer }, out.output)
+  done (answered text notes violated dump e answer are out) zero =
+      let calmly = subst (λ (v : Bool). IsAnswer gives request text notes v dump) (calm violated (sym e ∙ zero)) answer in
+      (text, record { request = request; asked = asked; notes = notes; dump = dump; answer = calmly }, out.output)
   done (refused stop dump e stops leaves are err) zero = absurd (never_done stop (sym e ∙ zero))
   done (undumped stop dump e is unfiled err) zero = absurd (omega (arith, e, zero))
-  done (unwritten text notes dump e answer are none begun) zero = absurd (omega (arith, e, zero))
+  done (unwritten text notes violated dump e answer are none begun) zero = absurd (omega (arith, e, zero))
 
   -- where it is done and no turns are to be reported, nothing goes to the error stream
   pub quiet : AskForNoNotes words → IsEnded gives request status wrote streams → status ≡ 0 → streams.err_after ≡ streams.err
-  quiet none (answered text notes dump e answer are out) zero =
-      out.silent (no_notes gives request text notes dump (none request asked) answer)
+  quiet none (answered text notes violated dump e answer are out) zero =
+      let calmly = subst (λ (v : Bool). IsAnswer gives request text notes v dump) (calm violated (sym e ∙ zero)) answer in
+      out.silent (no_notes gives request text notes dump (none request asked) calmly)
   quiet none (refused stop dump e stops leaves are err) zero = absurd (never_done stop (sym e ∙ zero))
   quiet none (undumped stop dump e is unfiled err) zero = absurd (omega (arith, e, zero))
-  quiet none (unwritten text notes dump e answer are out begun) zero = absurd (omega (arith, e, zero))
+  quiet none (unwritten text notes violated dump e answer are out begun) zero = absurd (omega (arith, e, zero))
 
   -- where it ends with status 1 or 2, it is refused
   pub reported : (n : ℕ) → (n ≡ 1) ⊎ (n ≡ 2) → IsEnded gives request status wrote streams → status ≡ n → IsRefusal gives words n
-  reported n small (answered text notes dump e answer are out) is = elim small [ inl one ↦ absurd (omega (arith, e, is, one)) | inr two ↦ absurd (omega (arith, e, is, two)) ]
+  reported n small (answered text notes violated dump e answer are out) is = absurd (never_small violated n small (sym e ∙ is))
   reported n small (refused stop dump e stops leaves are err) is = record { request = request; asked = asked; stop = stop; stops = stops; status_is = sym is ∙ e }
   reported n small (undumped stop dump e made unfiled err) is = elim small [ inl one ↦ absurd (omega (arith, e, is, one)) | inr two ↦ absurd (omega (arith, e, is, two)) ]
-  reported n small (unwritten text notes dump e answer are none begun) is = elim small [ inl one ↦ absurd (omega (arith, e, is, one)) | inr two ↦ absurd (omega (arith, e, is, two)) ]
+  reported n small (unwritten text notes violated dump e answer are none begun) is = elim small [ inl one ↦ absurd (omega (arith, e, is, one)) | inr two ↦ absurd (omega (arith, e, is, two)) ]
 
   -- where it ends with status 1 or 2, nothing goes to the output
   pub kept : (status ≡ 1) ⊎ (status ≡ 2) → IsEnded gives request status wrote streams → streams.out_after ≡ streams.out
-  kept small (answered text notes dump e answer are out) = elim small [ inl one ↦ absurd (omega (arith, e, one)) | inr two ↦ absurd (omega (arith, e, two)) ]
+  kept small (answered text notes violated dump e answer are out) = absurd (never_small violated status small (sym e))
   kept small (refused stop dump e stops leaves are err) = err.kept
   kept small (undumped stop dump e is unfiled err) = err.kept
-  kept small (unwritten text notes dump e answer are none begun) = elim small [ inl one ↦ absurd (omega (arith, e, one)) | inr two ↦ absurd (omega (arith, e, two)) ]
+  kept small (unwritten text notes violated dump e answer are none begun) = elim small [ inl one ↦ absurd (omega (arith, e, one)) | inr two ↦ absurd (omega (arith, e, two)) ]
 
 -- a dump that isn't written ends a call with status 3
 pub unfiled_status : (path dump : Option (List ℕ)) (stop : CallError) (wrote : List Written) → IsUnfiled path dump stop wrote → status_of stop ≡ 3
@@ -216,6 +242,7 @@ module _ (gives : FileFacts) (dumps : DumpFacts) (words : List (List ℕ)) (requ
   dump_ended streams status none (Mistaken (UnknownCode code)) h e err = absurd h
   dump_ended streams status none (Mistaken NoChart) h e err = absurd h
   dump_ended streams status none (Mistaken (Backwards from to)) h e err = absurd h
+  dump_ended streams status none (Mistaken (Unobserved name)) h e err = absurd h
   dump_ended streams status none (Mistaken (Overwritten path role)) h e err = overwriting request path role none asked h e refl err
   dump_ended streams status none (Mistaken TwoForms) h e err = absurd h
 
@@ -237,5 +264,6 @@ module _ (gives : FileFacts) (dumps : DumpFacts) (words : List (List ℕ)) (requ
   dump_status (Mistaken (UnknownCode code)) h = absurd h
   dump_status (Mistaken NoChart) h = absurd h
   dump_status (Mistaken (Backwards from to)) h = absurd h
+  dump_status (Mistaken (Unobserved name)) h = absurd h
   dump_status (Mistaken (Overwritten path role)) h = inl (refl, record { request = request; asked = asked; path = path; role = role; over = h })
   dump_status (Mistaken TwoForms) h = absurd h

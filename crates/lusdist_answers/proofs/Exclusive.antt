@@ -1,5 +1,5 @@
 -- What has an answer isn't refused.
-use Rattle.std.proofs.Common.{refl, ◌≡◌, ℕ, ◌<◌, List, length, map, Option, Some, None, Result, Ok, Err, false, sym, ap, ◌∙◌, subst, arith, inl, inr}
+use Rattle.std.proofs.Common.{refl, ◌≡◌, Bool, ℕ, ◌<◌, List, length, map, Option, Some, None, Result, Ok, Err, false, sym, ap, ◌∙◌, subst, arith, inl, inr}
 use Rattle.std.specs.Prelude.{IsUtf8}
 use Rattle.std.proofs.lemmas.Str.{IsUtf8-from_ascii}
 use Rattle.lutree.specs.Places.{ProgramPlaces}
@@ -59,18 +59,20 @@ use Rattle.lusdist_call.specs.Refused.IsReportedOf.{rule, flat}
 use Rattle.lusdist_call.specs.Explained.{code_in, explanation, IsExplainStopped}
 use Rattle.lusdist_call.specs.Explained.IsExplainStopped.{explain_unknown, explain_memory}
 use Rattle.lusdist_call.specs.Files.{IsUnread}
-use Rattle.lusdist_call.specs.Stopped.{IsScheduleRefused, HasNoFlat, StopsAtProgram, StopsAtPlan, StopsAtJob, IsCheckStopped, IsEvalRefused, IsEvalStopped, IsPlanStopped, IsReplayStopped, IsRunFault, IsRunStopped, IsRequestStopped}
+use Rattle.lusdist_call.specs.Stopped.{IsScheduleRefused, HasNoFlat, StopsAtProgram, StopsAtPlan, StopsAtJob, IsCheckStopped, IsEvalRefused, IsEvalStopped, IsPlanStopped, IsReplayStopped, IsRunFault, IsRunStopped, IsRequestStopped, IsUnobserved}
+use Rattle.lusdist_call.specs.Violations.{unobserved}
+use Rattle.clap.specs.Walk.{texts}
 use Rattle.lusdist_call.specs.Stopped.HasNoFlat.{unspelled, unruled}
 use Rattle.lusdist_call.specs.Stopped.StopsAtProgram.{program_unread, program_refused}
 use Rattle.lusdist_call.specs.Stopped.StopsAtPlan.{no_program, place_unread, place_refused}
 use Rattle.lusdist_call.specs.Stopped.IsCheckStopped.{check_program, check_memory}
 use Rattle.lusdist_call.specs.Mistakes.{mistake_in}
 use Rattle.lusdist_call.specs.Stopped.IsEvalRefused.{eval_mistaken, eval_stopped}
-use Rattle.lusdist_call.specs.Stopped.IsEvalStopped.{eval_program, eval_unread, eval_table, eval_fault, eval_memory}
+use Rattle.lusdist_call.specs.Stopped.IsEvalStopped.{eval_program, eval_unread, eval_table, eval_fault, eval_unobserved, eval_memory}
 use Rattle.lusdist_call.specs.Stopped.IsPlanStopped.{plan_files, plan_memory}
 use Rattle.lusdist_call.specs.Stopped.StopsAtJob.{no_plan, table_unread, table_refused}
-use Rattle.lusdist_call.specs.Stopped.IsReplayStopped.{replay_job, replay_unread, replay_schedule, replay_memory}
-use Rattle.lusdist_call.specs.Stopped.IsRunStopped.{run_job, run_fault, run_lost, run_thread, run_memory}
+use Rattle.lusdist_call.specs.Stopped.IsReplayStopped.{replay_job, replay_unread, replay_schedule, replay_unobserved, replay_memory}
+use Rattle.lusdist_call.specs.Stopped.IsRunStopped.{run_job, run_fault, run_lost, run_thread, run_unobserved, run_memory}
 use Rattle.lusdist_call.specs.Exact.{HasOneText, SaysNothing}
 use Rattle.std.proofs.lemmas.Option.{same_Some}
 use Rattle.lusdist_shell.specs.Files.{FileFacts}
@@ -217,7 +219,7 @@ place_memory text plan LinkLost is h = absurd h
 place_memory text plan NoThread is h = absurd h
 place_memory text plan (Mistaken mistake) is h = absurd h
 
-schedule_memory : (text turns : List ℕ) (stop : CallError) → schedule_of text ≡ Ok turns → IsScheduleRefused text stop → SaysNothing stop
+pub schedule_memory : (text turns : List ℕ) (stop : CallError) → schedule_of text ≡ Ok turns → IsScheduleRefused text stop → SaysNothing stop
 schedule_memory text turns (Schedule reported) is (inl memory) = memory_is (Schedule reported) (Schedule schedule.OutOfMemory) (ap (λ (x : ScheduleError). Schedule x) memory) tt
 schedule_memory text turns (Schedule reported) is (inr refused) = absurd (ok_err (schedule_of text) turns reported is refused)
 schedule_memory text turns (CannotRead path) is h = absurd h
@@ -293,8 +295,8 @@ module _ (gives : FileFacts) (settled : HasOneText gives) where
       program_memory request.program.now request.main.now is.program is.flat stop is.program_given (record { tree = is.tree; spelled = is.spelled; flat_is = is.flat_is }) at
   check_outcome request text notes stop is (check_memory e) = memory_is stop OutOfMemory e tt
 
-  fault_never : (request : EvalRequest) (text : List ℕ) (dump : Option (List ℕ)) → IsEvaluated gives request text dump → (name : List ℕ) (instant : ℕ) (kind : FaultKind) → IsFaultOf gives request name instant kind → ⊥
-  fault_never request text dump is name instant kind fault =
+  fault_never : (request : EvalRequest) (text notes : List ℕ) (dump : Option (List ℕ)) → IsEvaluated gives request text notes dump → (name : List ℕ) (instant : ℕ) (kind : FaultKind) → IsFaultOf gives request name instant kind → ⊥
+  fault_never request text notes dump is name instant kind fault =
       let asked = is.asked in
       let other = fault.asked in
       let program_same = one_of request.program.now other.program asked.program other.program_given asked.program_given in
@@ -312,20 +314,32 @@ module _ (gives : FileFacts) (settled : HasOneText gives) where
   pub posed_flat : (request : EvalRequest) (own : FlatView) (inputs : InputsView) (asked : IsPosedBy gives request own inputs) → HasFlat asked.program request.main.now own
   posed_flat request own inputs asked = record { tree = asked.tree; spelled = asked.posed.spelled; flat_is = asked.posed.flat_is }
 
-  eval_outcome : (request : EvalRequest) (text : List ℕ) (dump : Option (List ℕ)) (stop : CallError) → IsEvaluated gives request text dump → IsEvalStopped gives request stop → SaysNothing stop
-  eval_outcome request text dump stop is (eval_program at) =
+  -- a name that is observed where all are bool outputs
+  pub never_unobserved : {X : Type 0} (names : List (List ℕ)) (a b : FlatView) (stop : CallError) → b ≡ a → unobserved a.variables names ≡ None → IsUnobserved b names stop → X
+  never_unobserved names a b stop same none un =
+      absurd (none_some (unobserved a.variables names) un.name none (subst (λ (f : FlatView). unobserved f.variables names ≡ Some un.name) same un.first))
+
+  -- two evaluations of the same files have one flat program
+  pub posed_one : (request : EvalRequest) (a b : FlatView) (x y : InputsView) → IsPosedBy gives request a x → IsPosedBy gives request b y → b ≡ a
+  posed_one request a b x y asked other =
+      flats_one request.program.now request.main.now asked.program other.program a b asked.program_given other.program_given (posed_flat request a x asked) (posed_flat request b y other)
+
+  eval_outcome : (request : EvalRequest) (text notes : List ℕ) (dump : Option (List ℕ)) (stop : CallError) → IsEvaluated gives request text notes dump → IsEvalStopped gives request stop → SaysNothing stop
+  eval_outcome request text notes dump stop is (eval_program at) =
       program_memory request.program.now request.main.now is.asked.program is.flat stop is.asked.program_given (posed_flat request is.flat is.inputs is.asked) at
-  eval_outcome request text dump stop is (eval_unread bytes own given has unread) = unread_memory request.table.now is.asked.table stop is.asked.table_given unread
-  eval_outcome request text dump stop is (eval_table bytes table own given table_given has refused) =
+  eval_outcome request text notes dump stop is (eval_unread bytes own given has unread) = unread_memory request.table.now is.asked.table stop is.asked.table_given unread
+  eval_outcome request text notes dump stop is (eval_table bytes table own given table_given has refused) =
       let asked = is.asked in
       refused_memory request.program.now request.table.now request.main.now asked.program asked.table bytes table is.flat own is.inputs stop asked.program_given given (posed_flat request is.flat is.inputs asked) has
       asked.table_given table_given asked.posed.table_is asked.posed.short asked.posed.utf8 refused
-  eval_outcome request text dump stop is (eval_fault name instant kind e fault) = absurd (fault_never request text dump is name instant kind fault)
-  eval_outcome request text dump stop is (eval_memory e) = memory_is stop OutOfMemory e tt
+  eval_outcome request text notes dump stop is (eval_fault name instant kind e fault) = absurd (fault_never request text notes dump is name instant kind fault)
+  eval_outcome request text notes dump stop is (eval_unobserved own inputs asked un) =
+      never_unobserved (texts request.always.now) is.flat own stop (posed_one request is.flat own is.inputs inputs is.asked asked) is.observed un
+  eval_outcome request text notes dump stop is (eval_memory e) = memory_is stop OutOfMemory e tt
 
-  refused_outcome : (request : EvalRequest) (text : List ℕ) (dump : Option (List ℕ)) (stop : CallError) → IsEvaluated gives request text dump → IsEvalRefused gives request stop → SaysNothing stop
-  refused_outcome request text dump stop is (eval_mistaken mistake found e) = absurd (none_some (mistake_in request) mistake is.meant found)
-  refused_outcome request text dump stop is (eval_stopped meant at) = eval_outcome request text dump stop is at
+  refused_outcome : (request : EvalRequest) (text notes : List ℕ) (dump : Option (List ℕ)) (stop : CallError) → IsEvaluated gives request text notes dump → IsEvalRefused gives request stop → SaysNothing stop
+  refused_outcome request text notes dump stop is (eval_mistaken mistake found e) = absurd (none_some (mistake_in request) mistake is.meant found)
+  refused_outcome request text notes dump stop is (eval_stopped meant at) = eval_outcome request text notes dump stop is at
 
   plan_outcome : (request : PlanRequest) (text notes : List ℕ) (stop : CallError) → IsPlanned gives request text notes → IsPlanStopped gives request stop → SaysNothing stop
   plan_outcome request text notes stop is (plan_files at) =
@@ -343,14 +357,14 @@ module _ (gives : FileFacts) (settled : HasOneText gives) where
       is.table_given table_given is.job_is.inputs is.job_is.short is.job_is.utf8 refused
 
   -- two jobs of the same files have one flat program and one table
-  jobs_one : (path place_path table_path main : List ℕ) (a b : JobView) → IsJobFor gives path place_path table_path main a → IsJobFor gives path place_path table_path main b → (b.plan.flat ≡ a.plan.flat) × (b.inputs ≡ a.inputs)
+  pub jobs_one : (path place_path table_path main : List ℕ) (a b : JobView) → IsJobFor gives path place_path table_path main a → IsJobFor gives path place_path table_path main b → (b.plan.flat ≡ a.plan.flat) × (b.inputs ≡ a.inputs)
   jobs_one path place_path table_path main a b x y =
       let flat_eq = flats_one path main x.program y.program a.plan.flat b.plan.flat x.program_given y.program_given x.job_is.flat y.job_is.flat in
       let table_same = one_of table_path y.table x.table y.table_given x.table_given in
       let columns = subst (λ t. IsTextOf b.plan.flat.types (inputs_of b.plan.flat.variables) b.inputs t) table_same y.job_is.inputs in
       (flat_eq, one_table a.plan.flat.types (inputs_of a.plan.flat.variables) x.table b.inputs a.inputs (subst (λ (f : FlatView). IsTextOf f.types (inputs_of f.variables) b.inputs x.table) flat_eq columns) x.job_is.inputs)
 
-  module _ (request : ReplayRequest) (text notes : List ℕ) (dump : Option (List ℕ)) (stop : CallError) (is : IsReplayed gives request text notes dump) where
+  module _ (request : ReplayRequest) (text notes : List ℕ) (violated : Bool) (dump : Option (List ℕ)) (stop : CallError) (is : IsReplayed gives request text notes violated dump) where
     replay_outcome : IsReplayStopped gives request stop → SaysNothing stop
     replay_outcome (replay_job at) = job_memory_of request.program.now request.place.now request.table.now request.main.now is.job stop is.asked_for.job_for at
     replay_outcome (replay_unread job job_is unread) = unread_memory request.schedule.now is.asked_for.schedule_is.schedule stop is.asked_for.schedule_is.given unread
@@ -358,9 +372,11 @@ module _ (gives : FileFacts) (settled : HasOneText gives) where
         let asked = is.asked_for.schedule_is in
         let same = one_of request.schedule.now turns asked.schedule schedule_given asked.given in
         schedule_memory asked.schedule is.turns stop asked.turns_are (subst (λ b. IsScheduleRefused b stop) same refused)
+    replay_outcome (replay_unobserved job turns asked un) =
+        never_unobserved (texts request.always.now) is.job.plan.flat job.plan.flat stop (jobs_one request.program.now request.place.now request.table.now request.main.now is.job job is.asked_for.job_for asked.job_for).0 is.observed un
     replay_outcome (replay_memory e) = memory_is stop OutOfMemory e tt
 
-  module _ (request : RunRequest) (text : List ℕ) (dump : Option (List ℕ)) (stop : CallError) (is : IsRan gives request text dump) where
+  module _ (request : RunRequest) (text notes : List ℕ) (dump : Option (List ℕ)) (stop : CallError) (is : IsRan gives request text notes dump) where
     -- a run that has outputs has no fault
     run_never : (name : List ℕ) (instant : ℕ) (kind : FaultKind) → IsRunFault gives request name instant kind → ⊥
     run_never name instant kind fault =
@@ -376,19 +392,21 @@ module _ (gives : FileFacts) (settled : HasOneText gives) where
     run_outcome (run_fault name instant kind e fault) = absurd (run_never name instant kind fault)
     run_outcome (run_lost job job_is e) = memory_is stop LinkLost e tt
     run_outcome (run_thread job job_is e) = memory_is stop NoThread e tt
+    run_outcome (run_unobserved job asked un) =
+        never_unobserved (texts request.always.now) is.job.plan.flat job.plan.flat stop (jobs_one request.program.now request.place.now request.table.now request.main.now is.job job is.asked_for asked).0 is.observed un
     run_outcome (run_memory e) = memory_is stop OutOfMemory e tt
 
   explain_outcome : (code : Option (List ℕ)) (text : List ℕ) (stop : CallError) → explanation code ≡ Some text → IsExplainStopped code stop → SaysNothing stop
   explain_outcome code text stop answer (explain_memory e) = memory_is stop OutOfMemory e tt
   explain_outcome code text stop answer (explain_unknown name is none e) = absurd (none_some (explanation code) text none answer)
 
-  pub one_outcome_of : (request : Request) (text notes : List ℕ) (dump : Option (List ℕ)) (stop : CallError) → IsAnswer gives request text notes dump → IsRequestStopped gives request stop → SaysNothing stop
-  one_outcome_of (Check request) text notes dump stop answer stopped = check_outcome request text notes stop answer.0 stopped
-  one_outcome_of (Eval request) text notes dump stop answer stopped = refused_outcome request text dump stop answer.0 stopped
-  one_outcome_of (Plan request) text notes dump stop answer stopped = plan_outcome request text notes stop answer.0 stopped
-  one_outcome_of (Replay request) text notes dump stop answer stopped = replay_outcome request text notes dump stop answer stopped
-  one_outcome_of (AsksRun request) text notes dump stop answer stopped = run_outcome request text dump stop answer.0 stopped
-  one_outcome_of (Explain request) text notes dump stop answer stopped = explain_outcome (code_in request) text stop answer.0 stopped
+  pub one_outcome_of : (request : Request) (text notes : List ℕ) (violated : Bool) (dump : Option (List ℕ)) (stop : CallError) → IsAnswer gives request text notes violated dump → IsRequestStopped gives request stop → SaysNothing stop
+  one_outcome_of (Check request) text notes violated dump stop answer stopped = check_outcome request text notes stop answer.0 stopped
+  one_outcome_of (Eval request) text notes violated dump stop answer stopped = refused_outcome request text notes dump stop answer.0 stopped
+  one_outcome_of (Plan request) text notes violated dump stop answer stopped = plan_outcome request text notes stop answer.0 stopped
+  one_outcome_of (Replay request) text notes violated dump stop answer stopped = replay_outcome request text notes violated dump stop answer stopped
+  one_outcome_of (AsksRun request) text notes violated dump stop answer stopped = run_outcome request text notes dump stop answer.0 stopped
+  one_outcome_of (Explain request) text notes violated dump stop answer stopped = explain_outcome (code_in request) text stop answer.0 stopped
 
-pub one_outcome : (gives : FileFacts) → HasOneText gives → (request : Request) (text notes : List ℕ) (dump : Option (List ℕ)) (stop : CallError) → IsAnswer gives request text notes dump → IsRequestStopped gives request stop → SaysNothing stop
-one_outcome gives settled request text notes dump stop answer stopped = one_outcome_of gives settled request text notes dump stop answer stopped
+pub one_outcome : (gives : FileFacts) → HasOneText gives → (request : Request) (text notes : List ℕ) (violated : Bool) (dump : Option (List ℕ)) (stop : CallError) → IsAnswer gives request text notes violated dump → IsRequestStopped gives request stop → SaysNothing stop
+one_outcome gives settled request text notes violated dump stop answer stopped = one_outcome_of gives settled request text notes violated dump stop answer stopped

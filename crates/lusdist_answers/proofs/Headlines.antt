@@ -1,5 +1,5 @@
 -- What a call printed when it was done is true of the program that its texts say.
-use Rattle.std.proofs.Common.{◌≡◌, ℕ, List, Option, Some, codes, get_or, sym, ap, ◌∙◌, subst, arith}
+use Rattle.std.proofs.Common.{◌≡◌, ℕ, Bool, false, List, Option, Some, codes, get_or, sym, ap, ◌∙◌, subst, arith}
 use Rattle.std.proofs.lemmas.Option.{same_Some}
 use Rattle.clap.specs.Walk.{Text, Row}
 use Rattle.clap.specs.Simple.{subcommand_of}
@@ -62,7 +62,7 @@ module _ (gives : FileFacts) (settled : HasOneText gives) (path place_path table
   }
 
 -- a replay, by the request that was answered
-module _ (gives : FileFacts) (r : ReplayRequest) (text notes : List ℕ) (dump : Option (List ℕ)) (answer : IsReplayed gives r text notes dump) where
+module _ (gives : FileFacts) (r : ReplayRequest) (text notes : List ℕ) (violated : Bool) (dump : Option (List ℕ)) (answer : IsReplayed gives r text notes violated dump) where
   abbrev for_job : IsJobFor gives r.program.now r.place.now r.table.now r.main.now answer.job
   for_job = answer.asked_for.job_for
 
@@ -96,8 +96,8 @@ module _ (gives : FileFacts) (r : ReplayRequest) (text notes : List ℕ) (dump :
   }
 
 -- a run, by the request that was answered
-run_true : (gives : FileFacts) (settled : HasOneText gives) (r : RunRequest) (text : List ℕ) (dump : Option (List ℕ)) (answer : IsRan gives r text dump) → IsTrueRun answer.asked_for.program answer.asked_for.table r.main.now text
-run_true gives settled r text dump answer = record {
+run_true : (gives : FileFacts) (settled : HasOneText gives) (r : RunRequest) (text notes : List ℕ) (dump : Option (List ℕ)) (answer : IsRan gives r text notes dump) → IsTrueRun answer.asked_for.program answer.asked_for.table r.main.now text
+run_true gives settled r text notes dump answer = record {
   tree = answer.asked_for.job_is.flat.tree;
   flat = answer.job.plan.flat;
   inputs = answer.job.inputs;
@@ -110,7 +110,7 @@ run_true gives settled r text dump answer = record {
 module _ (gives : FileFacts) (settled : HasOneText gives) (command : Option (Text × List Row)) (program table text notes : List ℕ) (dump : Option (List ℕ)) where
   -- what is answered to words that ask for a replay is a replay of the same files
   module _ (request : ReplayRequest) (asked : IsReplayIn command request) (program_given : gives request.program.now (Some program)) (table_given : gives request.table.now (Some table)) where
-    replay_of : (other : Request) → IsFoundIn command other → IsAnswer gives other text notes dump → IsTrueReplay program table request.main.now text
+    replay_of : (other : Request) → IsFoundIn command other → IsAnswer gives other text notes false dump → IsTrueReplay program table request.main.now text
     replay_of (Check r) found answer = absurd (let e : 114 ≡ 99 = other_first (codes "replay") (codes "check") (same_name command (codes "replay") (codes "check") asked.matches found.matches asked.named found.named) in omega (arith, e))
     replay_of (Eval r) found answer = absurd (let e : 114 ≡ 101 = other_first (codes "replay") (codes "eval") (same_name command (codes "replay") (codes "eval") asked.matches found.matches asked.named found.named) in omega (arith, e))
     replay_of (Plan r) found answer = absurd (let e : 114 ≡ 112 = other_first (codes "replay") (codes "plan") (same_name command (codes "replay") (codes "plan") asked.matches found.matches asked.named found.named) in omega (arith, e))
@@ -127,11 +127,11 @@ module _ (gives : FileFacts) (settled : HasOneText gives) (command : Option (Tex
         let table_same = table_is gives settled r.program.now r.place.now r.table.now r.main.now answer.job files table (subst (λ (x : List ℕ). gives x (Some table)) (sym t) table_given) in
         subst (λ (x : List ℕ). IsTrueReplay program table x text) n
         (subst (λ (x : List ℕ). IsTrueReplay program x r.main.now text) table_same
-        (subst (λ (x : List ℕ). IsTrueReplay x files.table r.main.now text) program_same (replay_true gives r text notes dump answer settled)))
+        (subst (λ (x : List ℕ). IsTrueReplay x files.table r.main.now text) program_same (replay_true gives r text notes false dump answer settled)))
 
   -- and what is answered to words that ask for a run is a run of them
   module _ (request : RunRequest) (asked : IsRunIn command request) (program_given : gives request.program.now (Some program)) (table_given : gives request.table.now (Some table)) where
-    run_of : (other : Request) → IsFoundIn command other → IsAnswer gives other text notes dump → IsTrueRun program table request.main.now text
+    run_of : (other : Request) → IsFoundIn command other → IsAnswer gives other text notes false dump → IsTrueRun program table request.main.now text
     run_of (Check r) found answer = absurd (let e : 114 ≡ 99 = other_first (codes "run") (codes "check") (same_name command (codes "run") (codes "check") asked.matches found.matches asked.named found.named) in omega (arith, e))
     run_of (Eval r) found answer = absurd (let e : 114 ≡ 101 = other_first (codes "run") (codes "eval") (same_name command (codes "run") (codes "eval") asked.matches found.matches asked.named found.named) in omega (arith, e))
     run_of (Plan r) found answer = absurd (let e : 114 ≡ 112 = other_first (codes "run") (codes "plan") (same_name command (codes "run") (codes "plan") asked.matches found.matches asked.named found.named) in omega (arith, e))
@@ -149,7 +149,7 @@ module _ (gives : FileFacts) (settled : HasOneText gives) (command : Option (Tex
         let table_same = table_is gives settled r.program.now r.place.now r.table.now r.main.now ran.job files table (subst (λ (x : List ℕ). gives x (Some table)) (sym t) table_given) in
         subst (λ (x : List ℕ). IsTrueRun program table x text) n
         (subst (λ (x : List ℕ). IsTrueRun program x r.main.now text) table_same
-        (subst (λ (x : List ℕ). IsTrueRun x files.table r.main.now text) program_same (run_true gives settled r text dump ran)))
+        (subst (λ (x : List ℕ). IsTrueRun x files.table r.main.now text) program_same (run_true gives settled r text notes dump ran)))
 
 pub headline : (gives : FileFacts) → Headline gives
 headline gives = record {

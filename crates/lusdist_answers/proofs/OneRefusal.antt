@@ -66,7 +66,7 @@ use Rattle.lusdist_call.specs.Evaluated.{IsFaultOf, IsFaultReported}
 use Rattle.lusdist_call.specs.Refused.{IsReportedOf, IsProgramRefused, IsPlaceRefused, IsTableRefused}
 use Rattle.lusdist_call.specs.Refused.IsReportedOf.{rule, flat}
 use Rattle.lusdist_call.specs.Files.{IsUnread}
-use Rattle.lusdist_call.specs.Stopped.{IsScheduleRefused, HasNoFlat, StopsAtProgram, StopsAtPlan, StopsAtJob, IsEvalRefused, IsEvalStopped, IsReplayStopped, IsRunStopped, IsRequestStopped}
+use Rattle.lusdist_call.specs.Stopped.{IsScheduleRefused, HasNoFlat, StopsAtProgram, StopsAtPlan, StopsAtJob, IsEvalRefused, IsEvalStopped, IsReplayStopped, IsRunStopped, IsRequestStopped, IsUnobserved}
 use Rattle.lusdist_call.specs.Stopped.HasNoFlat.{unspelled, unruled}
 use Rattle.lusdist_call.specs.Stopped.StopsAtProgram.{program_unread, program_refused}
 use Rattle.lusdist_call.specs.Stopped.StopsAtPlan.{no_program, place_unread, place_refused}
@@ -74,17 +74,19 @@ use Rattle.lusdist_call.specs.Stopped.IsCheckStopped.{check_program, check_memor
 use Rattle.lusdist_call.specs.declared.mistake.Mistake.{Mistake}
 use Rattle.lusdist_call.specs.Mistakes.{mistake_in}
 use Rattle.lusdist_call.specs.Stopped.IsEvalRefused.{eval_mistaken, eval_stopped}
-use Rattle.lusdist_call.specs.Stopped.IsEvalStopped.{eval_program, eval_unread, eval_table, eval_fault, eval_memory}
+use Rattle.lusdist_call.specs.Stopped.IsEvalStopped.{eval_program, eval_unread, eval_table, eval_fault, eval_unobserved, eval_memory}
 use Rattle.lusdist_call.specs.Stopped.IsPlanStopped.{plan_files, plan_memory}
 use Rattle.lusdist_call.specs.Stopped.StopsAtJob.{no_plan, table_unread, table_refused}
-use Rattle.lusdist_call.specs.Stopped.IsReplayStopped.{replay_job, replay_unread, replay_schedule, replay_memory}
-use Rattle.lusdist_call.specs.Stopped.IsRunStopped.{run_job, run_fault, run_lost, run_thread, run_memory}
+use Rattle.lusdist_call.specs.Stopped.IsReplayStopped.{replay_job, replay_unread, replay_schedule, replay_unobserved, replay_memory}
+use Rattle.lusdist_call.specs.Stopped.IsRunStopped.{run_job, run_fault, run_lost, run_thread, run_unobserved, run_memory}
 use Rattle.lusdist_call.specs.Exact.{HasOneText, SaysNothing, IsFaultOfRun}
 use Rattle.lusdist_call.specs.Explained.{code_in, IsExplainStopped}
 use Rattle.lusdist_call.specs.Explained.IsExplainStopped.{explain_unknown, explain_memory}
-use Rattle.lusdist_call.specs.declared.mistake.Mistake.TheVariants.{UnknownCode}
-use Rattle.lusdist_answers.proofs.Exclusive.{memory_is, none_some, text_memory, rules_memory, one_of, flats_one, flats_same}
-use Rattle.lusdist_answers.proofs.OneStatus.{never, past_program, past_table, fault_past, past_plan, replay_past, run_past}
+use Rattle.lusdist_call.specs.declared.mistake.Mistake.TheVariants.{UnknownCode, Unobserved}
+use Rattle.lusdist_call.specs.Violations.{unobserved}
+use Rattle.clap.specs.Walk.{texts}
+use Rattle.lusdist_answers.proofs.Exclusive.{memory_is, none_some, text_memory, rules_memory, one_of, flats_one, flats_same, jobs_one, never_unobserved, posed_one}
+use Rattle.lusdist_answers.proofs.OneStatus.{never, past_program, past_table, past_posed, fault_past, posed_past, past_plan, replay_past, turns_past, run_past, fault_observed}
 use Rattle.lusdist_shell.specs.Files.{FileFacts}
 
 -- ---- stops of one file, by what they say
@@ -408,6 +410,12 @@ module _ (gives : FileFacts) (settled : HasOneText gives) where
       let there = subst (λ (f : FlatView). IsTableRefused f.types (inputs_of f.variables) table b) same (subst (λ t. IsTableRefused other.types (inputs_of other.variables) t b) (one_of gives settled path text table text_given given) y) in
       one_of_kind (λ e. BadTable e) (IsTableReported types inputs table) a b (table_one types inputs table) (table_reported types inputs table a x) (table_reported types inputs table b there) na nb
 
+  -- two names that are no bool outputs, of one flat program
+  one_unobserved : (names : List (List ℕ)) (own other : FlatView) (a b : CallError) → other ≡ own → IsUnobserved own names a → IsUnobserved other names b → a ≡ b
+  one_unobserved names own other a b same x y =
+      let also = subst (λ (f : FlatView). unobserved f.variables names ≡ Some y.name) same y.first in
+      x.is ∙ ap (λ (n : List ℕ). Mistaken (Unobserved n)) (same_Some x.name y.name (sym x.first ∙ also)) ∙ sym y.is
+
   module _ (request : EvalRequest) where
     both_faults : (m n : List ℕ) (t u : ℕ) (k l : FaultKind) → IsFaultOf gives request m t k → IsFaultOf gives request n u l → ◌≡◌ {A = CallError} (Fault m t k) (Fault n u l)
     both_faults m n t u k l x y =
@@ -446,6 +454,18 @@ module _ (gives : FileFacts) (settled : HasOneText gives) where
     eval_stop a b (eval_fault name instant kind e fault) (eval_unread other list also other_has y) na nb = never gives settled request.table.now fault.asked.table b fault.asked.table_given y nb
     eval_stop a b (eval_fault name instant kind e fault) (eval_table other text list also text_given other_has y) na nb = past_table gives settled request other text name list instant kind b also text_given other_has fault y nb
     eval_stop a b (eval_fault name instant kind e fault) (eval_fault other t k d also) na nb = e ∙ both_faults name other instant t kind k fault also ∙ sym d
+    eval_stop a b (eval_program x) (eval_unobserved own inputs asked un) na nb = posed_past gives settled request own inputs asked a x na
+    eval_stop a b (eval_unread program own given has x) (eval_unobserved other inputs asked un) na nb = never gives settled request.table.now asked.table a asked.table_given x na
+    eval_stop a b (eval_table program table own given table_given has x) (eval_unobserved other inputs asked un) na nb = past_posed gives settled request program table own other inputs asked a given table_given has x na
+    eval_stop a b (eval_fault name instant kind e fault) (eval_unobserved other inputs asked un) na nb =
+        never_unobserved gives settled (texts request.always.now) fault.flat other b (posed_one gives settled request fault.flat other fault.inputs inputs fault.asked asked) fault.observed un
+    eval_stop a b (eval_unobserved own inputs asked un) (eval_memory m) na nb = absurd (nb (memory_is b OutOfMemory m tt))
+    eval_stop a b (eval_unobserved own inputs asked un) (eval_program y) na nb = posed_past gives settled request own inputs asked b y nb
+    eval_stop a b (eval_unobserved own inputs asked un) (eval_unread other list also other_has y) na nb = never gives settled request.table.now asked.table b asked.table_given y nb
+    eval_stop a b (eval_unobserved own inputs asked un) (eval_table other text list also text_given other_has y) na nb = past_posed gives settled request other text list own inputs asked b also text_given other_has y nb
+    eval_stop a b (eval_unobserved own inputs asked un) (eval_fault name instant kind e fault) na nb =
+        never_unobserved gives settled (texts request.always.now) fault.flat own a (posed_one gives settled request fault.flat own fault.inputs inputs fault.asked asked) fault.observed un
+    eval_stop a b (eval_unobserved own inputs asked un) (eval_unobserved other more also un_too) na nb = one_unobserved (texts request.always.now) own other a b (posed_one gives settled request own other inputs more asked also) un un_too
 
   module _ (path place_path table_path main : List ℕ) where
     job_stop : (a b : CallError) → StopsAtJob gives path place_path table_path main a → StopsAtJob gives path place_path table_path main b → (¬ SaysNothing a) → (¬ SaysNothing b) → a ≡ b
@@ -478,6 +498,15 @@ module _ (gives : FileFacts) (settled : HasOneText gives) where
     replay_stop a b (replay_schedule job turns is given x) (replay_schedule other others also others_given y) na nb =
         let there = subst (λ t. IsScheduleRefused t b) (one_of gives settled request.schedule.now others turns others_given given) y in
         one_of_kind (λ e. Schedule e) (λ e. schedule_of turns ≡ Err e) a b (λ e f h k. err_same (schedule_of turns) e f h k) (schedule_reported turns a x) (schedule_reported turns b there) na nb
+    replay_stop a b (replay_job x) (replay_unobserved job turns asked un) na nb = replay_past gives settled request job a asked.job_for x na
+    replay_stop a b (replay_unread job is x) (replay_unobserved other turns asked un) na nb = never gives settled request.schedule.now asked.schedule_is.schedule a asked.schedule_is.given x na
+    replay_stop a b (replay_schedule job bytes is given x) (replay_unobserved other turns asked un) na nb = turns_past gives settled request other turns bytes a asked given x na
+    replay_stop a b (replay_unobserved job turns asked un) (replay_memory e) na nb = absurd (nb (memory_is b OutOfMemory e tt))
+    replay_stop a b (replay_unobserved job turns asked un) (replay_job y) na nb = replay_past gives settled request job b asked.job_for y nb
+    replay_stop a b (replay_unobserved job turns asked un) (replay_unread other is y) na nb = never gives settled request.schedule.now asked.schedule_is.schedule b asked.schedule_is.given y nb
+    replay_stop a b (replay_unobserved job turns asked un) (replay_schedule other bytes is given y) na nb = turns_past gives settled request job turns bytes b asked given y nb
+    replay_stop a b (replay_unobserved job turns asked un) (replay_unobserved other more also un_too) na nb =
+        one_unobserved (texts request.always.now) job.plan.flat other.plan.flat a b (jobs_one gives settled request.program.now request.place.now request.table.now request.main.now job other asked.job_for also.job_for).0 un un_too
 
   -- a fault of a run is reported on threads
   run_reported : (request : RunRequest) (stop : CallError) (name : List ℕ) (instant : ℕ) (kind : FaultKind) → stop ≡ Fault name instant kind → IsFaultOfRun (AsksRun request) stop
@@ -494,6 +523,14 @@ module _ (gives : FileFacts) (settled : HasOneText gives) where
     run_stop a b (run_job x) (run_thread job is e) na nb nf = absurd (nb (memory_is b NoThread e tt))
     run_stop a b (run_job x) (run_job y) na nb nf = job_stop request.program.now request.place.now request.table.now request.main.now a b x y na nb
     run_stop a b (run_job x) (run_fault name t k e fault) na nb nf = run_past gives settled request fault.job a fault.asked_for x na
+    run_stop a b (run_job x) (run_unobserved job asked un) na nb nf = run_past gives settled request job a asked x na
+    run_stop a b (run_unobserved job asked un) (run_memory m) na nb nf = absurd (nb (memory_is b OutOfMemory m tt))
+    run_stop a b (run_unobserved job asked un) (run_lost other is m) na nb nf = absurd (nb (memory_is b LinkLost m tt))
+    run_stop a b (run_unobserved job asked un) (run_thread other is m) na nb nf = absurd (nb (memory_is b NoThread m tt))
+    run_stop a b (run_unobserved job asked un) (run_job y) na nb nf = run_past gives settled request job b asked y nb
+    run_stop a b (run_unobserved job asked un) (run_fault name t k e fault) na nb nf = fault_observed gives settled request name t k fault job a asked un
+    run_stop a b (run_unobserved job asked un) (run_unobserved other also un_too) na nb nf =
+        one_unobserved (texts request.always.now) job.plan.flat other.plan.flat a b (jobs_one gives settled request.program.now request.place.now request.table.now request.main.now job other asked also).0 un un_too
 
   explain_stop : (code : Option (List ℕ)) (a b : CallError) → IsExplainStopped code a → IsExplainStopped code b → (¬ SaysNothing a) → (¬ SaysNothing b) → a ≡ b
   explain_stop code a b (explain_memory e) y na nb = absurd (na (memory_is a OutOfMemory e tt))

@@ -1,6 +1,6 @@
 -- Two refusals of one request have one status.
 use Rattle.std.proofs.Common.{◌≡◌, ℕ, List, Option, Some, None, refl, sym, ap, ◌∙◌, subst}
-use Rattle.luflow.specs.Program.{FlatView}
+use Rattle.luflow.specs.Program.{FlatView, InputsView}
 use Rattle.luflow.specs.Variables.{inputs_of}
 use Rattle.luflow.specs.declared.form.FaultKind.{FaultKind}
 use Rattle.luworld.specs.Needs.{PlanView}
@@ -19,27 +19,28 @@ use Rattle.lusdist_shell.specs.declared.request.Request.TheVariants.{Check, Eval
 use Rattle.lusdist_call.specs.declared.call_error.CallError.{CallError}
 use Rattle.lusdist_call.specs.declared.call_error.CallError.TheVariants.{CannotRead, CannotWrite, NotAscii, Syntax, Rules, Flat, Place, Table, Schedule, Fault, LinkLost, NoThread, OutOfMemory, Mistaken}
 use Rattle.lusdist_call.specs.Statuses.{status_of}
-use Rattle.lusdist_call.specs.Asked.{HasFlat, IsPlanFor, IsJobFor}
-use Rattle.lusdist_call.specs.Evaluated.{IsFaultOf}
+use Rattle.lusdist_call.specs.Asked.{HasFlat, IsPlanFor, IsJobFor, IsAskedFor}
+use Rattle.lusdist_call.specs.Evaluated.{IsFaultOf, IsPosedBy}
+use Rattle.clap.specs.Walk.{texts}
 use Rattle.lusdist_call.specs.Refused.{IsReportedOf, IsProgramRefused, IsPlaceRefused, IsTableRefused}
 use Rattle.lusdist_call.specs.Refused.IsReportedOf.{rule, flat}
 use Rattle.lusdist_call.specs.Files.{IsUnread}
-use Rattle.lusdist_call.specs.Stopped.{IsScheduleRefused, HasNoFlat, StopsAtProgram, StopsAtPlan, StopsAtJob, IsEvalRefused, IsEvalStopped, IsReplayStopped, IsRunStopped, IsRequestStopped}
+use Rattle.lusdist_call.specs.Stopped.{IsScheduleRefused, HasNoFlat, StopsAtProgram, StopsAtPlan, StopsAtJob, IsEvalRefused, IsEvalStopped, IsReplayStopped, IsRunFault, IsRunStopped, IsRequestStopped, IsUnobserved}
 use Rattle.lusdist_call.specs.Stopped.HasNoFlat.{unspelled, unruled}
 use Rattle.lusdist_call.specs.Stopped.StopsAtProgram.{program_unread, program_refused}
 use Rattle.lusdist_call.specs.Stopped.StopsAtPlan.{no_program, place_unread, place_refused}
 use Rattle.lusdist_call.specs.Stopped.IsCheckStopped.{check_program, check_memory}
 use Rattle.lusdist_call.specs.Mistakes.{mistake_in}
 use Rattle.lusdist_call.specs.Stopped.IsEvalRefused.{eval_mistaken, eval_stopped}
-use Rattle.lusdist_call.specs.Stopped.IsEvalStopped.{eval_program, eval_unread, eval_table, eval_fault, eval_memory}
+use Rattle.lusdist_call.specs.Stopped.IsEvalStopped.{eval_program, eval_unread, eval_table, eval_fault, eval_unobserved, eval_memory}
 use Rattle.lusdist_call.specs.Stopped.IsPlanStopped.{plan_files, plan_memory}
 use Rattle.lusdist_call.specs.Stopped.StopsAtJob.{no_plan, table_unread, table_refused}
-use Rattle.lusdist_call.specs.Stopped.IsReplayStopped.{replay_job, replay_unread, replay_schedule, replay_memory}
-use Rattle.lusdist_call.specs.Stopped.IsRunStopped.{run_job, run_fault, run_lost, run_thread, run_memory}
+use Rattle.lusdist_call.specs.Stopped.IsReplayStopped.{replay_job, replay_unread, replay_schedule, replay_unobserved, replay_memory}
+use Rattle.lusdist_call.specs.Stopped.IsRunStopped.{run_job, run_fault, run_lost, run_thread, run_unobserved, run_memory}
 use Rattle.lusdist_call.specs.Exact.{HasOneText, SaysNothing}
 use Rattle.lusdist_call.specs.Explained.{code_in, IsExplainStopped}
 use Rattle.lusdist_call.specs.Explained.IsExplainStopped.{explain_unknown, explain_memory}
-use Rattle.lusdist_answers.proofs.Exclusive.{memory_is, none_some, unread_memory, program_memory, plan_memory_of, job_memory_of, refused_memory, posed_flat}
+use Rattle.lusdist_answers.proofs.Exclusive.{memory_is, none_some, unread_memory, program_memory, plan_memory_of, job_memory_of, refused_memory, posed_flat, one_of, jobs_one, schedule_memory, never_unobserved, posed_one}
 use Rattle.lusdist_shell.specs.Files.{FileFacts}
 
 -- ---- the status of a stop by what it is of
@@ -231,19 +232,32 @@ module _ (gives : FileFacts) (settled : HasOneText gives) where
   plan_status path place_path main a b (place_refused program place own given has place_given x) (place_refused other text list also other_has text_given y) na nb =
       both_text a b (place_text own place a x) (place_text list text b y) na nb
 
+  -- a name that is no bool output has the status of words that are wrong
+  two_of : (own : FlatView) (names : List (List ℕ)) (stop : CallError) → IsUnobserved own names stop → status_of stop ≡ 2
+  two_of own names stop un = ap status_of un.is
+
+  both_two : (own list : FlatView) (names : List (List ℕ)) (a b : CallError) → IsUnobserved own names a → IsUnobserved list names b → status_of a ≡ status_of b
+  both_two own list names a b x y = two_of own names a x ∙ sym (two_of list names b y)
+
   module _ (request : EvalRequest) where
+    -- a program and a table that are posed aren't refused
+    pub posed_past : {X : Type 0} (own : FlatView) (inputs : InputsView) → IsPosedBy gives request own inputs → (stop : CallError) → StopsAtProgram gives request.program.now request.main.now stop → (¬ SaysNothing stop) → X
+    posed_past own inputs asked stop x not = past_program request.program.now request.main.now asked.program own stop asked.program_given (posed_flat gives settled request own inputs asked) x not
+
+    pub past_posed : {X : Type 0} (program table : List ℕ) (own list : FlatView) (inputs : InputsView) → IsPosedBy gives request list inputs → (stop : CallError) → gives request.program.now (Some program) → gives request.table.now (Some table) → HasFlat program request.main.now own
+        → IsTableRefused own.types (inputs_of own.variables) table stop → (¬ SaysNothing stop) → X
+    past_posed program table own list inputs asked stop given table_given has x not =
+        absurd (not (refused_memory gives settled request.program.now request.table.now request.main.now asked.program asked.table program table list own inputs stop asked.program_given given (posed_flat gives settled request list inputs asked) has
+        asked.table_given table_given asked.posed.table_is asked.posed.short asked.posed.utf8 x))
+
     -- a table that a fault is of isn't refused
     pub past_table : {X : Type 0} (program table name : List ℕ) (own : FlatView) (instant : ℕ) (kind : FaultKind) (stop : CallError) → gives request.program.now (Some program) → gives request.table.now (Some table) → HasFlat program request.main.now own
         → IsFaultOf gives request name instant kind → IsTableRefused own.types (inputs_of own.variables) table stop → (¬ SaysNothing stop) → X
     past_table program table name own instant kind stop given table_given has fault x not =
-        let asked = fault.asked in
-        absurd (not (refused_memory gives settled request.program.now request.table.now request.main.now asked.program asked.table program table fault.flat own fault.inputs stop asked.program_given given (posed_flat gives settled request fault.flat fault.inputs asked) has
-        asked.table_given table_given asked.posed.table_is asked.posed.short asked.posed.utf8 x))
+        past_posed program table own fault.flat fault.inputs fault.asked stop given table_given has x not
 
     pub fault_past : {X : Type 0} (name : List ℕ) (instant : ℕ) (kind : FaultKind) (stop : CallError) → IsFaultOf gives request name instant kind → StopsAtProgram gives request.program.now request.main.now stop → (¬ SaysNothing stop) → X
-    fault_past name instant kind stop fault x not =
-        let asked = fault.asked in
-        past_program request.program.now request.main.now asked.program fault.flat stop asked.program_given (posed_flat gives settled request fault.flat fault.inputs asked) x not
+    fault_past name instant kind stop fault x not = posed_past fault.flat fault.inputs fault.asked stop x not
 
     three_of_fault : (name : List ℕ) (instant : ℕ) (kind : FaultKind) (stop : CallError) → stop ≡ Fault name instant kind → status_of stop ≡ 3
     three_of_fault name instant kind stop e = ap status_of e
@@ -271,6 +285,18 @@ module _ (gives : FileFacts) (settled : HasOneText gives) where
     eval_status a b (eval_fault name instant kind e fault) (eval_unread other list also other_has y) na nb = never request.table.now fault.asked.table b fault.asked.table_given y nb
     eval_status a b (eval_fault name instant kind e fault) (eval_table other text list also text_given other_has y) na nb = past_table other text name list instant kind b also text_given other_has fault y nb
     eval_status a b (eval_fault name instant kind e fault) (eval_fault other t k d also) na nb = three_of_fault name instant kind a e ∙ sym (three_of_fault other t k b d)
+    eval_status a b (eval_program x) (eval_unobserved own inputs asked un) na nb = posed_past own inputs asked a x na
+    eval_status a b (eval_unread program own given has x) (eval_unobserved other inputs asked un) na nb = never request.table.now asked.table a asked.table_given x na
+    eval_status a b (eval_table program table own given table_given has x) (eval_unobserved other inputs asked un) na nb = past_posed program table own other inputs asked a given table_given has x na
+    eval_status a b (eval_fault name instant kind e fault) (eval_unobserved other inputs asked un) na nb =
+        never_unobserved gives settled (texts request.always.now) fault.flat other b (posed_one gives settled request fault.flat other fault.inputs inputs fault.asked asked) fault.observed un
+    eval_status a b (eval_unobserved own inputs asked un) (eval_memory m) na nb = absurd (nb (memory_is b OutOfMemory m tt))
+    eval_status a b (eval_unobserved own inputs asked un) (eval_program y) na nb = posed_past own inputs asked b y nb
+    eval_status a b (eval_unobserved own inputs asked un) (eval_unread other list also other_has y) na nb = never request.table.now asked.table b asked.table_given y nb
+    eval_status a b (eval_unobserved own inputs asked un) (eval_table other text list also text_given other_has y) na nb = past_posed other text list own inputs asked b also text_given other_has y nb
+    eval_status a b (eval_unobserved own inputs asked un) (eval_fault name instant kind e fault) na nb =
+        never_unobserved gives settled (texts request.always.now) fault.flat own a (posed_one gives settled request fault.flat own fault.inputs inputs fault.asked asked) fault.observed un
+    eval_status a b (eval_unobserved own inputs asked un) (eval_unobserved other more also un_too) na nb = both_two own other (texts request.always.now) a b un un_too
 
   module _ (path place_path table_path main : List ℕ) where
     -- a plan or a job that the files give isn't refused
@@ -297,6 +323,13 @@ module _ (gives : FileFacts) (settled : HasOneText gives) where
     pub replay_past : {X : Type 0} (job : JobView) (stop : CallError) → IsJobFor gives request.program.now request.place.now request.table.now request.main.now job → StopsAtJob gives request.program.now request.place.now request.table.now request.main.now stop → (¬ SaysNothing stop) → X
     replay_past job stop is x not = past_job request.program.now request.place.now request.table.now request.main.now job stop is x not
 
+    -- nor is a schedule that is one
+    pub turns_past : {X : Type 0} (job : JobView) (turns bytes : List ℕ) (stop : CallError) → IsAskedFor gives request job turns → gives request.schedule.now (Some bytes) → IsScheduleRefused bytes stop → (¬ SaysNothing stop) → X
+    turns_past job turns bytes stop asked given refused not =
+        let read = asked.schedule_is in
+        let same = one_of gives settled request.schedule.now bytes read.schedule given read.given in
+        absurd (not (schedule_memory read.schedule turns stop read.turns_are (subst (λ b. IsScheduleRefused b stop) same refused)))
+
     replay_status : (a b : CallError) → IsReplayStopped gives request a → IsReplayStopped gives request b → (¬ SaysNothing a) → (¬ SaysNothing b) → status_of a ≡ status_of b
     replay_status a b (replay_memory e) y na nb = absurd (na (memory_is a OutOfMemory e tt))
     replay_status a b (replay_job x) (replay_memory e) na nb = absurd (nb (memory_is b OutOfMemory e tt))
@@ -312,6 +345,14 @@ module _ (gives : FileFacts) (settled : HasOneText gives) where
     replay_status a b (replay_schedule job turns is given x) (replay_unread other also y) na nb = never request.schedule.now turns b given y nb
     replay_status a b (replay_schedule job turns is given x) (replay_schedule other others also others_given y) na nb =
         both_text a b (schedule_text turns a x) (schedule_text others b y) na nb
+    replay_status a b (replay_job x) (replay_unobserved job turns asked un) na nb = replay_past job a asked.job_for x na
+    replay_status a b (replay_unread job is x) (replay_unobserved other turns asked un) na nb = never request.schedule.now asked.schedule_is.schedule a asked.schedule_is.given x na
+    replay_status a b (replay_schedule job bytes is given x) (replay_unobserved other turns asked un) na nb = turns_past other turns bytes a asked given x na
+    replay_status a b (replay_unobserved job turns asked un) (replay_memory e) na nb = absurd (nb (memory_is b OutOfMemory e tt))
+    replay_status a b (replay_unobserved job turns asked un) (replay_job y) na nb = replay_past job b asked.job_for y nb
+    replay_status a b (replay_unobserved job turns asked un) (replay_unread other is y) na nb = never request.schedule.now asked.schedule_is.schedule b asked.schedule_is.given y nb
+    replay_status a b (replay_unobserved job turns asked un) (replay_schedule other bytes is given y) na nb = turns_past job turns bytes b asked given y nb
+    replay_status a b (replay_unobserved job turns asked un) (replay_unobserved other more also un_too) na nb = both_two job.plan.flat other.plan.flat (texts request.always.now) a b un un_too
 
   module _ (request : RunRequest) where
     pub run_past : {X : Type 0} (job : JobView) (stop : CallError) → IsJobFor gives request.program.now request.place.now request.table.now request.main.now job → StopsAtJob gives request.program.now request.place.now request.table.now request.main.now stop → (¬ SaysNothing stop) → X
@@ -319,6 +360,11 @@ module _ (gives : FileFacts) (settled : HasOneText gives) where
 
     three_is : (name : List ℕ) (instant : ℕ) (kind : FaultKind) (stop : CallError) → stop ≡ Fault name instant kind → status_of stop ≡ 3
     three_is name instant kind stop e = ap status_of e
+
+    -- a run that faults observes bool outputs alone
+    pub fault_observed : {X : Type 0} (name : List ℕ) (instant : ℕ) (kind : FaultKind) → IsRunFault gives request name instant kind → (job : JobView) (stop : CallError) → IsJobFor gives request.program.now request.place.now request.table.now request.main.now job → IsUnobserved job.plan.flat (texts request.always.now) stop → X
+    fault_observed name instant kind fault job stop asked un =
+        never_unobserved gives settled (texts request.always.now) fault.job.plan.flat job.plan.flat stop (jobs_one gives settled request.program.now request.place.now request.table.now request.main.now fault.job job fault.asked_for asked).0 fault.observed un
 
     run_status : (a b : CallError) → IsRunStopped gives request a → IsRunStopped gives request b → (¬ SaysNothing a) → (¬ SaysNothing b) → status_of a ≡ status_of b
     run_status a b (run_memory e) y na nb = absurd (na (memory_is a OutOfMemory e tt))
@@ -334,6 +380,14 @@ module _ (gives : FileFacts) (settled : HasOneText gives) where
     run_status a b (run_fault name t k e fault) (run_thread job is m) na nb = absurd (nb (memory_is b NoThread m tt))
     run_status a b (run_fault name t k e fault) (run_job y) na nb = run_past fault.job b fault.asked_for y nb
     run_status a b (run_fault name t k e fault) (run_fault other u l d also) na nb = three_is name t k a e ∙ sym (three_is other u l b d)
+    run_status a b (run_job x) (run_unobserved job asked un) na nb = run_past job a asked x na
+    run_status a b (run_fault name t k e fault) (run_unobserved job asked un) na nb = fault_observed name t k fault job b asked un
+    run_status a b (run_unobserved job asked un) (run_memory m) na nb = absurd (nb (memory_is b OutOfMemory m tt))
+    run_status a b (run_unobserved job asked un) (run_lost other is m) na nb = absurd (nb (memory_is b LinkLost m tt))
+    run_status a b (run_unobserved job asked un) (run_thread other is m) na nb = absurd (nb (memory_is b NoThread m tt))
+    run_status a b (run_unobserved job asked un) (run_job y) na nb = run_past job b asked y nb
+    run_status a b (run_unobserved job asked un) (run_fault name t k e fault) na nb = fault_observed name t k fault job a asked un
+    run_status a b (run_unobserved job asked un) (run_unobserved other also un_too) na nb = both_two job.plan.flat other.plan.flat (texts request.always.now) a b un un_too
 
   explain_status : (code : Option (List ℕ)) (a b : CallError) → IsExplainStopped code a → IsExplainStopped code b → (¬ SaysNothing a) → (¬ SaysNothing b) → status_of a ≡ status_of b
   explain_status code a b (explain_memory e) y na nb = absurd (na (memory_is a OutOfMemory e tt))

@@ -1,5 +1,5 @@
 -- What an evaluation gives, in the words of the source.
-use Rattle.std.proofs.Common.{◌≡◌, ◌<◌, ◌≤◌, ◌+◌, ℕ, zero, suc, Bool, true, false, cond, List, [], ◌∷◌, length, map, refl, sym, ap, ap₂, ◌∙◌, subst, inl, arith}
+use Rattle.std.proofs.Common.{◌≡◌, ◌⊎◌, ◌<◌, ◌≤◌, ◌+◌, ℕ, zero, suc, Bool, true, false, cond, List, [], ◌∷◌, length, map, refl, sym, ap, ap₂, ◌∙◌, subst, inl, inr, arith}
 use Rattle.std.specs.Prelude.{Result, Ok, Err, Option, Some, None, IfOk, IfErr, option_map, slice_get, string_bytes, IsUtf8}
 use Rattle.lutree.specs.Tree.{ProgramTree}
 use Rattle.luflow.specs.declared.data.Status.{Status}
@@ -35,6 +35,8 @@ use Rattle.lusdist_call.specs.Evaluated.{AreEvaluated, AreVariablesAt, AreVariab
 use Rattle.lutree.specs.Places.{ProgramPlaces}
 use Rattle.luflow.specs.declared.variable.Enum.{Enum}
 use Rattle.lutab.specs.Outputs.{shown_of}
+use Rattle.clap.specs.Walk.{texts}
+use Rattle.lusdist_call.specs.Violations.{has_lines, unobserved}
 use Rattle.lusdist_call.specs.Refused.{IsReportedOf, IsProgramRefused, IsTableRefused}
 use Rattle.lusdist_call.specs.Refused.IsReportedOf.{rule, flat as reported_flat}
 use Rattle.lusdist_call.specs.Files.{IsUnread, wave_path}
@@ -43,7 +45,8 @@ use Rattle.lusdist_call.specs.Answers.{IsReplyTo}
 use Rattle.lusdist_call.specs.declared.reply.Reply.{Reply}
 use Rattle.lusdist_call.specs.declared.refusal.Refusal.{Refusal}
 use Rattle.lusdist_shell.specs.declared.request.Request.TheVariants.{Eval}
-use Rattle.lusdist_call.specs.Stopped.{IsEvalStopped, IsRefusalOf}
+use Rattle.lusdist_call.specs.Stopped.{IsEvalStopped, IsRefusalOf, IsUnobserved}
+use Rattle.lusdist_call.specs.declared.mistake.Mistake.TheVariants.{Unobserved}
 use Rattle.lusdist_call.specs.Stopped.IsEvalStopped.{eval_fault, eval_memory}
 use Rattle.lusdist_call.specs.Stopped.IsEvalRefused.{eval_stopped}
 use Rattle.lusdist_shell.specs.Files.{FileFacts}
@@ -174,21 +177,21 @@ source_fault gives request flat inputs asked name instant kind reported σ solve
     (is.faults inputs σ (solution flat inputs) solves solution_is first.place reported.variable instant kind reported.is first.fault first.owner reported.there)
 
 -- where an evaluation of them stops, what was asked for stops so
-pub eval_stop : (gives : FileFacts) (request : EvalRequest) (flat : FlatView) (inputs : InputsView) → IsPosedBy gives request flat inputs → (stop : CallError) → IsStopped flat inputs stop → IsEvalStopped gives request stop
-eval_stop gives request flat inputs asked (CannotRead path) reported = absurd reported
-eval_stop gives request flat inputs asked (CannotWrite path) reported = absurd reported
-eval_stop gives request flat inputs asked NotAscii reported = absurd reported
-eval_stop gives request flat inputs asked (Syntax e) reported = absurd reported
-eval_stop gives request flat inputs asked (Rules e) reported = absurd reported
-eval_stop gives request flat inputs asked (Flat e) reported = absurd reported
-eval_stop gives request flat inputs asked (Place e) reported = absurd reported
-eval_stop gives request flat inputs asked (BadTable e) reported = absurd reported
-eval_stop gives request flat inputs asked (Schedule e) reported = absurd reported
-eval_stop gives request flat inputs asked (Fault name instant kind) reported = eval_fault name instant kind refl (record { flat = flat; inputs = inputs; asked = asked; reported = reported; source = source_fault gives request flat inputs asked name instant kind reported })
-eval_stop gives request flat inputs asked LinkLost reported = absurd reported
-eval_stop gives request flat inputs asked NoThread reported = absurd reported
-eval_stop gives request flat inputs asked (Mistaken mistake) reported = absurd reported
-eval_stop gives request flat inputs asked OutOfMemory reported = eval_memory refl
+pub eval_stop : (gives : FileFacts) (request : EvalRequest) (flat : FlatView) (inputs : InputsView) → IsPosedBy gives request flat inputs → unobserved flat.variables (texts request.always.now) ≡ None → (stop : CallError) → IsStopped flat inputs stop → IsEvalStopped gives request stop
+eval_stop gives request flat inputs asked observed (CannotRead path) reported = absurd reported
+eval_stop gives request flat inputs asked observed (CannotWrite path) reported = absurd reported
+eval_stop gives request flat inputs asked observed NotAscii reported = absurd reported
+eval_stop gives request flat inputs asked observed (Syntax e) reported = absurd reported
+eval_stop gives request flat inputs asked observed (Rules e) reported = absurd reported
+eval_stop gives request flat inputs asked observed (Flat e) reported = absurd reported
+eval_stop gives request flat inputs asked observed (Place e) reported = absurd reported
+eval_stop gives request flat inputs asked observed (BadTable e) reported = absurd reported
+eval_stop gives request flat inputs asked observed (Schedule e) reported = absurd reported
+eval_stop gives request flat inputs asked observed (Fault name instant kind) reported = eval_fault name instant kind refl (record { flat = flat; inputs = inputs; asked = asked; reported = reported; source = source_fault gives request flat inputs asked name instant kind reported; observed = observed })
+eval_stop gives request flat inputs asked observed LinkLost reported = absurd reported
+eval_stop gives request flat inputs asked observed NoThread reported = absurd reported
+eval_stop gives request flat inputs asked observed (Mistaken mistake) reported = absurd reported
+eval_stop gives request flat inputs asked observed OutOfMemory reported = eval_memory refl
 
 -- STOPS THAT TELL NO FAULT
 
@@ -255,10 +258,10 @@ dumped_to gives request flat inputs asked (Mistaken mistake) dump is h = h
 dumped_to gives request flat inputs asked OutOfMemory dump is h = h
 
 -- what an evaluation shows is what was asked for
-pub evaluated_reply : (gives : FileFacts) (request : EvalRequest) (flat : FlatView) (inputs : InputsView) → mistake_in request ≡ None → IsPosedBy gives request flat inputs → (r : Result Reply Refusal)
-    → IfOk r (λ reply. IsShown request flat inputs (string_bytes reply.text) (option_map string_bytes reply.dump)) → IfOk r (λ reply. string_bytes reply.notes ≡ []) → IfOk r (IsReplyTo gives (Eval request))
-evaluated_reply gives request flat inputs meant asked (Ok reply) h none =
-    let is : IsEvaluated gives request (string_bytes reply.text) (option_map string_bytes reply.dump) = record {
+pub evaluated_reply : (gives : FileFacts) (request : EvalRequest) (flat : FlatView) (inputs : InputsView) → mistake_in request ≡ None → IsPosedBy gives request flat inputs → unobserved flat.variables (texts request.always.now) ≡ None → (r : Result Reply Refusal)
+    → IfOk r (λ reply. IsShown request flat inputs (string_bytes reply.text) (string_bytes reply.notes) (option_map string_bytes reply.dump)) → IfOk r (λ reply. reply.violated ≡ has_lines (string_bytes reply.notes)) → IfOk r (IsReplyTo gives (Eval request))
+evaluated_reply gives request flat inputs meant asked observed (Ok reply) h lines =
+    let is : IsEvaluated gives request (string_bytes reply.text) (string_bytes reply.notes) (option_map string_bytes reply.dump) = record {
       meant = meant;
       flat = flat;
       inputs = inputs;
@@ -267,9 +270,11 @@ evaluated_reply gives request flat inputs meant asked (Ok reply) h none =
       are_columns = of_source asked.program request.main.now asked.table asked.tree flat inputs (shown_of request.all flat.variables) h.columns asked.posed h.are_columns h.no_fault;
       text_is = h.text_is;
       dump_is = h.dump_is;
+      observed = observed;
+      notes_are = h.notes_are;
     } in
-    (is, none)
-evaluated_reply gives request flat inputs meant asked (Err refusal) h none = tt
+    (is, lines)
+evaluated_reply gives request flat inputs meant asked observed (Err refusal) h lines = tt
 
 pub evaluated_before : (gives : FileFacts) (request : EvalRequest) (flat : FlatView) (inputs : InputsView) → IsPosedBy gives request flat inputs → (r : Result Reply Refusal)
     → IfErr r (λ x. IsStopped flat inputs x.error) → IfErr r (λ x. IsShownTo request flat inputs x.error (option_map string_bytes x.dump)) → IfErr r (λ x. IsDumpedTo gives request x.error (option_map string_bytes x.dump))
@@ -281,3 +286,8 @@ pub eval_refusal : (gives : FileFacts) (request : EvalRequest) → mistake_in re
     → IfErr r (λ x. IsEvalStopped gives request x.error) → IfErr r (λ x. IsDumpedTo gives request x.error (option_map string_bytes x.dump)) → IfErr r (IsRefusalOf gives (Eval request))
 eval_refusal gives request meant (Ok reply) stops leaves = tt
 eval_refusal gives request meant (Err x) stops leaves = record { stops = eval_stopped meant stops; leaves = leaves }
+
+-- a name that is no bool output is no fault, nor is it that memory ran out
+pub observe_none : (flat : FlatView) (names : List (List ℕ)) (stop : CallError) → (stop ≡ OutOfMemory) ⊎ IsUnobserved flat names stop → IsNoFault stop
+observe_none flat names stop (inl memory) = λ name instant kind e. let clash : OutOfMemory ≡ Fault name instant kind = sym memory ∙ e in cc
+observe_none flat names stop (inr un) = λ name instant kind e. let clash : Mistaken (Unobserved un.name) ≡ Fault name instant kind = sym un.is ∙ e in cc

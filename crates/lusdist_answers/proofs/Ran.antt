@@ -1,5 +1,5 @@
 -- What a run of a job gives, in the words of the program that was asked for.
-use Rattle.std.proofs.Common.{◌≡◌, ℕ, ◌<◌, List, length, false, Some, Result, Ok, Err, IfOk, IfErr, ◌⊎◌, MatchResult, refl, sym, ap, ◌∙◌, subst, inl, inr}
+use Rattle.std.proofs.Common.{◌≡◌, ℕ, ◌<◌, List, length, false, Some, Result, Ok, Err, IfOk, IfErr, ◌⊎◌, MatchResult, refl, sym, ap, ◌∙◌, subst, inl, inr, None}
 use Rattle.std.specs.Prelude.{IsUtf8, option_map, string_bytes}
 use Rattle.luflow.specs.Tables.{FitsProgram}
 use Rattle.luflow.specs.Variables.{inputs_of}
@@ -37,6 +37,8 @@ use Rattle.lusdist_call.specs.Headline.{HasNoFaultIn}
 use Rattle.lusdist_shell.specs.declared.request.Request.TheVariants.{Run as AsksRun}
 use Rattle.lusdist_call.specs.declared.reply.Reply.{Reply}
 use Rattle.lusdist_call.specs.Answers.{IsRan, IsReplyTo}
+use Rattle.lusdist_call.specs.Violations.{unobserved}
+use Rattle.clap.specs.Walk.{texts}
 use Rattle.lusdist_call.specs.Asked.{IsJobFor}
 use Rattle.lusdist_call.specs.Evaluated.{AreOutputsOf}
 use Rattle.lusdist_call.specs.Ran.{IsRunError, IsStopOfRun, IsRunReply}
@@ -100,7 +102,7 @@ no_source_fault_of tree main job source fine σ solves name t kind early fault =
     let found = source.all_faults job.inputs σ (solution job.plan.flat job.inputs) solves own name t kind fault in
     fine (solution job.plan.flat job.inputs) own found.0 t kind early found.1
 
-module _ (gives : FileFacts) (request : RunRequest) (job : JobView) (asked : IsJobFor gives request.program.now request.place.now request.table.now request.main.now job) where
+module _ (gives : FileFacts) (request : RunRequest) (job : JobView) (asked : IsJobFor gives request.program.now request.place.now request.table.now request.main.now job) (observed : unobserved job.plan.flat.variables (texts request.always.now) ≡ None) where
   pub outputs_are : (outputs : List OutputColumn) → AreRunOutputs job outputs → AreOutputsOf asked.job_is.flat.tree request.main.now job.plan.flat job.inputs outputs
   outputs_are outputs are =
       let source = asked.job_is.flat.flat_is in
@@ -114,15 +116,17 @@ module _ (gives : FileFacts) (request : RunRequest) (job : JobView) (asked : IsJ
 
   pub is_ran : (reply : Reply) → IsRunReply job request reply → IsReplyTo gives (AsksRun request) reply
   is_ran reply found =
-      let ran : IsRan gives request (string_bytes reply.text) (option_map string_bytes reply.dump) = record {
+      let ran : IsRan gives request (string_bytes reply.text) (string_bytes reply.notes) (option_map string_bytes reply.dump) = record {
         job = job;
         asked_for = asked;
         outputs = found.outputs;
         are_outputs = outputs_are found.outputs found.are_outputs;
         text_is = found.text_is;
         dump_is = found.dump_is;
+        observed = observed;
+        notes_are = found.notes_are;
       } in
-      (ran, found.no_notes)
+      (ran, found.violated_is)
 
   fault_is : (name : List ℕ) (instant : ℕ) (kind : FaultKind) → IsStopOfRun job (Fault name instant kind) → IsRunFault gives request name instant kind
   fault_is name instant kind (variable, site, named, at) =
@@ -139,6 +143,7 @@ module _ (gives : FileFacts) (request : RunRequest) (job : JobView) (asked : IsJ
         source = λ σ solves.
             subst (λ n. IsSourceFault asked.job_is.flat.tree request.main.now job.inputs σ n instant kind) (owner.named ∙ sym named)
             (source.faults job.inputs σ (streams_of job) solves (IsSolution-solution job.plan.flat job.inputs source.is_flat.ordered) at.place owner.number instant kind owner.variable at.is owner.owner owner.there);
+        observed = observed;
       }
 
   pub run_stop : (stop : CallError) → IsStopOfRun job stop → IsRunStopped gives request stop

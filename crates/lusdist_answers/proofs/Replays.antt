@@ -1,6 +1,8 @@
 -- What a replay prints is true of the program that was asked for.
-use Rattle.std.proofs.Common.{ℕ, List, ap, sym, subst}
-use Rattle.std.specs.Prelude.{Option}
+use Rattle.std.proofs.Common.{◌≡◌, ℕ, Bool, List, ap, sym, subst}
+use Rattle.std.specs.Prelude.{Option, None}
+use Rattle.clap.specs.Walk.{texts}
+use Rattle.lusdist_call.specs.Violations.{unobserved}
 use Rattle.luworld.specs.Needs.{IsPlan}
 use Rattle.luworld.specs.Jobs.{JobView}
 use Rattle.lusource.specs.Source.{SourceStreams, IsSourceSolution}
@@ -17,7 +19,7 @@ use Rattle.lusdist_call.specs.Waved.{AreSignalsTrue}
 use Rattle.lusdist_answers.proofs.TrueReports.{output_true, reported_in, reported_true}
 use Rattle.lusdist_shell.specs.Files.{FileFacts}
 
-module _ (gives : FileFacts) (request : ReplayRequest) (job : JobView) (turns text notes : List ℕ) (dump : Option (List ℕ)) (asked : IsAskedFor gives request job turns) (printed : IsPrinted request job turns text notes dump) where
+module _ (gives : FileFacts) (request : ReplayRequest) (job : JobView) (turns text notes : List ℕ) (violated : Bool) (dump : Option (List ℕ)) (asked : IsAskedFor gives request job turns) (observed : unobserved job.plan.flat.variables (texts request.always.now) ≡ None) (printed : IsPrinted request job turns text notes violated dump) where
   -- what is known of an output of a world is a prefix of what the source gives it
   signals_true : (signals : List Signal) → AreOutputSignals printed.world signals → AreSignalsTrue asked.job_for.job_is.flat.tree request.main.now job.inputs signals
   signals_true signals are =
@@ -37,7 +39,7 @@ module _ (gives : FileFacts) (request : ReplayRequest) (job : JobView) (turns te
       }) in
       subst (λ (j : JobView). AreSignalsTrue tree request.main.now j.inputs signals) printed.world_is.job_is found
 
-  pub is_replayed : IsReplayed gives request text notes dump
+  pub is_replayed : IsReplayed gives request text notes violated dump
   is_replayed =
       let w = printed.world in
       let tree = asked.job_for.job_is.flat.tree in
@@ -51,6 +53,7 @@ module _ (gives : FileFacts) (request : ReplayRequest) (job : JobView) (turns te
         job = job;
         turns = turns;
         asked_for = asked;
+        observed = observed;
         printed = printed;
         reported = found.reported;
         reported_by = found.by;

@@ -13,11 +13,13 @@ ghost use Rattle.luflow.specs.Variables.{outputs_of};
 ghost use Rattle.lusdist_call.specs.Evaluated.{IsDumpedTo, IsNoFault, IsPosedBy};
 ghost use Rattle.lusdist_call.specs.Stopped.{IsCheckStopped, IsEvalStopped, IsPlanStopped, IsRefusalOf, IsRunStopped};
 ghost use Rattle.lusdist_call.specs.Mistakes.{mistake_in};
+ghost use Rattle.lusdist_call.specs.Violations.{unobserved};
+ghost use Rattle.clap.specs.Walk.{texts};
 ghost use Rattle.lusdist_call.specs.declared.call_error.CallError.{CallError};
 ghost use Rattle.lusdist_call.specs.declared.call_error.CallError.TheVariants.{OutOfMemory};
 
 use crate::evaluating::evaluation;
-use crate::jobs::job_for;
+use crate::jobs::{job_for, observe_job};
 use crate::planning::{plan_text, planned};
 use crate::running::run_table;
 use crate::sources::{flat_at, flattened, inputs_at, program_of};
@@ -25,7 +27,7 @@ use luexplain::of_warnings;
 use luflow::{Flat, Inputs};
 use luplace::Plan;
 use luplace_report::report_idle;
-use lusdist_call::{CallError, Refusal, Reply, mistake_in, read};
+use lusdist_call::{CallError, Refusal, Reply, mistake_in, observe, read};
 use lusdist_shell::{CheckRequest, EvalRequest, Files, PlanRequest, Progress, RunRequest};
 use lustat_warn::warnings;
 use lusyn::print_program;
@@ -68,15 +70,11 @@ pub fn check_answer<F: Files>(
     let _flat = flattened(alloc, &program, request.main)?;
     let text = print_program(alloc, &program)?;
     let notes = check_notes(alloc, request, &bytes, &program)?;
-    Ok(Reply {
-        text,
-        notes,
-        dump: None,
-    })
+    Ok(Reply::noted(text, notes))
 }
 
 /// The flat program and the inputs of the files that an evaluation asks for. They are read and refused in the order of the
-/// words.
+/// words; the names that are observed come last.
 fn posed<F: Files>(
     alloc: Global,
     request: EvalRequest<'_>,
@@ -86,16 +84,19 @@ fn posed<F: Files>(
         found.1) }
     ensures fit { IfOk result (λ found. IsFit found.0 found.1) }
     ensures some { IfOk result (λ found. 0 < length (outputs_of found.0.variables)) }
+    ensures observed { IfOk result (λ found. unobserved found.0.variables
+        (texts request.entry.always.now) ≡ None) }
     ensures stopped { IfErr result (IsEvalStopped (F.gives files.now) request.entry) }
     ensures no_fault { IfErr result IsNoFault }
 {
     let flat = flat_at(alloc, files, request.program, request.main)?;
     let inputs = inputs_at(alloc, files, &flat, request.table)?;
+    observe(alloc, &flat, request.always)?;
     Ok((flat, inputs))
 }
 
-/// What the program and the table of an evaluation give: its outputs, or all its main variables, as a table or as a chart, and their
-/// dump.
+/// What the program and the table of an evaluation give: its outputs, or all its main variables, as a table or as a chart, their dump,
+/// and what is told of outputs that are observed.
 fn evaluated<F: Files>(alloc: Global, request: EvalRequest<'_>, files: &F) -> Result<Reply, Refusal>
     requires { mistake_in request ≡ None }
     ensures reply { IfOk result (IsReplyTo (F.gives files.now) (Request.Eval request.entry)) }
@@ -149,14 +150,11 @@ pub fn plan_answer<F: Files>(
     let plan = planned(alloc, files, request.program, request.place, request.main)?;
     let text = plan_text(alloc, &plan, request.form)?;
     let notes = plan_notes(alloc, request, &plan)?;
-    Ok(Reply {
-        text,
-        notes,
-        dump: None,
-    })
+    Ok(Reply::noted(text, notes))
 }
 
-/// What a run gives: the table of the outputs of the program, which its sites gave together, and their dump.
+/// What a run gives: the table of the outputs of the program, which its sites gave together, their dump, and what is told of those that
+/// are observed.
 pub fn run_answer<R: Threads + Wait + Clock + Sync, F: Files, P: Progress>(
     rt: &R,
     alloc: Global,
@@ -176,5 +174,6 @@ pub fn run_answer<R: Threads + Wait + Clock + Sync, F: Files, P: Progress>(
         request.table,
         request.main,
     )?;
+    observe_job(alloc, &job, request.always)?;
     run_table(rt, alloc, request, progress, &job)
 }

@@ -1,6 +1,6 @@
 //! The main variables of a program at a table, as a text.
 
-ghost use Rattle.std.specs.Prelude.{◌≡◌, ◌<◌, ◌≤◌, List, [], Some, IfOk, IfErr, OnOk, length, slice_get, string_bytes, option_map};
+ghost use Rattle.std.specs.Prelude.{◌≡◌, ◌<◌, ◌≤◌, List, Some, IfOk, IfErr, OnOk, length, slice_get, string_bytes, option_map};
 ghost use Rattle.luflow.specs.declared.variable.Variable.{Variable};
 ghost use Rattle.luflow.specs.Tables.{OutputColumn};
 ghost use Rattle.luflow.specs.Sound.{IsFit};
@@ -8,7 +8,8 @@ ghost use Rattle.luflow.specs.Variables.{outputs_of};
 ghost use Rattle.lueval.specs.Whole.{HasNoFault, IsAnswer};
 ghost use Rattle.lutab.specs.Outputs.{shown_of};
 ghost use Rattle.lusdist_call.specs.Files.{dump_for, wave_path};
-ghost use Rattle.lusdist_call.specs.Evaluated.{AreEvaluated, HasNoFaultBefore, IsShown, IsShownBefore, IsShownTo, IsStopped, IsStopFor, tabled_text, shown_text, wave_text};
+ghost use Rattle.lusdist_call.specs.Violations.{has_lines};
+ghost use Rattle.lusdist_call.specs.Evaluated.{eval_notes, AreEvaluated, HasNoFaultBefore, IsShown, IsShownBefore, IsShownTo, IsStopped, IsStopFor, tabled_text, shown_text, wave_text};
 ghost use Rattle.lueval_lines.specs.declared.error.EvalError.TheVariants.{Fault};
 
 use lubase::Name;
@@ -16,7 +17,7 @@ use lublock::block_outputs;
 use luchart::{chronogram, cut, dump};
 use lueval::{EvalError, whole_columns};
 use luflow::{Enum, FaultKind, Flat, Inputs, Outputs};
-use lusdist_call::{CallError, Refusal, Reply};
+use lusdist_call::{CallError, Refusal, Reply, column_violations};
 use lusdist_shell::EvalRequest;
 use lutab::{shown_kinds, write_aligned, write_columns};
 use lutree::Kind;
@@ -240,7 +241,20 @@ fn wave_before(
     }
 }
 
-/// What a request asks for of columns: a text, and their dump.
+/// What is told of the outputs among columns that a request observes.
+fn eval_notes(
+    alloc: Global,
+    request: EvalRequest<'_>,
+    flat: &Flat,
+    columns: &Outputs,
+) -> Result<String, AllocError>
+    ensures { IfOk result (λ told. string_bytes told
+        ≡ eval_notes request.entry flat.now columns.now) }
+{
+    column_violations(alloc, request.always, flat, request.all, columns)
+}
+
+/// What a request asks for of columns: a text, their dump, and what is told of outputs that are observed.
 fn shown(
     alloc: Global,
     request: EvalRequest<'_>,
@@ -251,11 +265,15 @@ fn shown(
         ≡ shown_text request.entry flat.now columns.now) }
     ensures dump { IfOk result (λ reply. option_map string_bytes reply.dump
         ≡ dump_for (wave_path request.entry) (wave_text request.entry flat.now columns.now)) }
-    ensures notes { IfOk result (λ reply. string_bytes reply.notes ≡ []) }
+    ensures notes { IfOk result (λ reply. string_bytes reply.notes
+        ≡ eval_notes request.entry flat.now columns.now) }
+    ensures violated { IfOk result (λ reply. reply.violated
+        ≡ has_lines (string_bytes reply.notes)) }
 {
     let text = shown_text(alloc, request, flat, columns)?;
     let dump = wave(alloc, request, flat, columns)?;
-    Ok(Reply::new(alloc, text, dump))
+    let told = eval_notes(alloc, request, flat, columns)?;
+    Ok(Reply::new(text, told, dump))
 }
 
 /// The stop for the first fault, of this main variable at this instant, with the dump of the instants before it.
@@ -287,8 +305,8 @@ fn faulted(
     })
 }
 
-/// What a request asks for of a flat program and a table that fits it, as a text and a dump; or the first fault, with the dump of
-/// the instants before it.
+/// What a request asks for of a flat program and a table that fits it, as a text and a dump, with what is told of outputs that are
+/// observed; or the first fault, with the dump of the instants before it.
 pub fn evaluation(
     alloc: Global,
     request: EvalRequest<'_>,
@@ -298,8 +316,10 @@ pub fn evaluation(
     requires fit { IsFit flat.now inputs.now }
     requires some { 0 < length (outputs_of flat.now.variables) }
     ensures shown { IfOk result (λ reply. IsShown request.entry flat.now inputs.now
-        (string_bytes reply.text) (option_map string_bytes reply.dump)) }
-    ensures notes { IfOk result (λ reply. string_bytes reply.notes ≡ []) }
+        (string_bytes reply.text) (string_bytes reply.notes)
+        (option_map string_bytes reply.dump)) }
+    ensures violated { IfOk result (λ reply. reply.violated
+        ≡ has_lines (string_bytes reply.notes)) }
     ensures stopped { IfErr result (λ refusal. IsStopped flat.now inputs.now refusal.error) }
     ensures before { IfErr result (λ refusal. IsShownTo request.entry flat.now inputs.now
         refusal.error (option_map string_bytes refusal.dump)) }

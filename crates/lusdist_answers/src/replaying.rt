@@ -1,6 +1,6 @@
 //! What a replay prints, of the files that it asks for.
 
-ghost use Rattle.std.specs.Prelude.{◌≡◌, ◌++◌, ◌<◌, ℕ, List, IfOk, IfErr, length, string_bytes, option_map};
+ghost use Rattle.std.specs.Prelude.{◌≡◌, ◌++◌, ◌<◌, ℕ, List, IfOk, IfErr, None, length, string_bytes, option_map};
 ghost use Rattle.luworld.specs.Needs.{sites_of};
 ghost use Rattle.luweave.specs.Headline.{IsFaithful};
 ghost use Rattle.luweave_text.specs.Traced.{IsTraced};
@@ -9,20 +9,23 @@ ghost use Rattle.lusdist_call.specs.Asked.{IsAskedFor, IsWorldOf};
 ghost use Rattle.lusdist_call.specs.Noted.{tracing_of, AreNotesOf, AreStandsOf, AreReplayNotes, warnings_of};
 ghost use Rattle.lusdist_call.specs.Answers.{IsPrinted, IsReplyTo};
 ghost use Rattle.lusdist_call.specs.Stopped.{IsReplayStopped};
+ghost use Rattle.lusdist_call.specs.Violations.{has_lines, unobserved};
+ghost use Rattle.clap.specs.Walk.{texts};
 ghost use Rattle.lusdist_call.specs.declared.call_error.CallError.{CallError};
 ghost use Rattle.lusdist_call.specs.declared.call_error.CallError.TheVariants.{OutOfMemory};
 
 use crate::filing::dump_of_world;
-use crate::jobs::job_for;
+use crate::jobs::{job_for, observe_job};
 use crate::sources::turns_at;
 use luplace::{Job, Plan};
-use lusdist_call::{CallError, Reply};
+use lusdist_call::{CallError, Reply, world_violations};
 use lusdist_shell::{Files, ReplayRequest, TurnsForm};
 use luweave::{World, new_sites, replay};
 use luweave_text::{TraceForm, Tracing, text_of_stands, text_of_stray, text_of_world, trace};
-use std::alloc::Global;
+use std::alloc::{AllocError, Global};
 
-/// The job of the files that a replay asks for, and its turns. They are read and refused in the order of the words.
+/// The job of the files that a replay asks for, and its turns. They are read and refused in the order of the words; the names that are
+/// observed come last.
 fn job_and_turns<F: Files>(
     alloc: Global,
     request: ReplayRequest<'_>,
@@ -30,6 +33,8 @@ fn job_and_turns<F: Files>(
 ) -> Result<(Job, Vec<u8>), CallError>
     ensures asked { IfOk result (λ found. IsAskedFor (F.gives files.now) request.entry found.0
         found.1.items) }
+    ensures observed { IfOk result (λ found. unobserved found.0.plan.flat.variables
+        (texts request.entry.always.now) ≡ None) }
     ensures stopped { IfErr result (IsReplayStopped (F.gives files.now) request.entry) }
 {
     let job = job_for(
@@ -41,6 +46,7 @@ fn job_and_turns<F: Files>(
         request.main,
     )?;
     let turns = turns_at(alloc, files, request.schedule)?;
+    observe_job(alloc, &job, request.always)?;
     Ok((job, turns))
 }
 
@@ -160,7 +166,30 @@ fn put_stands(
     Ok(())
 }
 
-/// What a replay of a job gives: the text of its world, its notes, and a dump, where the request asks for one.
+/// A text, notes, a dump or none, and behind the notes what is told of outputs that are observed.
+fn replied(
+    text: String,
+    mut notes: String,
+    dump: Option<String>,
+    told: String,
+) -> Result<Reply, AllocError>
+    ensures text { IfOk result (λ reply. reply.text ≡ text) }
+    ensures notes { IfOk result (λ reply. string_bytes reply.notes
+        ≡ string_bytes notes ++ string_bytes told) }
+    ensures dump { IfOk result (λ reply. reply.dump ≡ dump) }
+    ensures violated { IfOk result (λ reply. reply.violated ≡ has_lines (string_bytes told)) }
+{
+    notes.push_str(told.as_str())?;
+    Ok(Reply {
+        text,
+        notes,
+        dump,
+        violated: !told.is_empty(),
+    })
+}
+
+/// What a replay of a job gives: the text of its world, its notes with what is told of outputs that are observed, and a dump, where the
+/// request asks for one.
 fn printed(
     alloc: Global,
     request: ReplayRequest<'_>,
@@ -168,7 +197,7 @@ fn printed(
     turns: &[u8],
 ) -> Result<Reply, CallError>
     ensures printed { IfOk result (λ reply. IsPrinted request.entry job.now turns.now
-        (string_bytes reply.text) (string_bytes reply.notes)
+        (string_bytes reply.text) (string_bytes reply.notes) reply.violated
         (option_map string_bytes reply.dump)) }
     ensures memory { IfErr result (λ stop. stop ≡ OutOfMemory) }
 {
@@ -177,7 +206,9 @@ fn printed(
     put_stands(alloc, request, job.plan(), &world, &mut notes)?;
     let text = text_of_world(alloc, job.plan(), &world)?;
     let dump = dump_of_world(alloc, request, job.plan(), &world)?;
-    Ok(Reply { text, notes, dump })
+    let told = world_violations(alloc, request.always, job.plan(), &world)?;
+    let reply = replied(text, notes, dump, told)?;
+    Ok(reply)
 }
 
 /// What a replay gives.

@@ -1,6 +1,6 @@
 //! A run of a job on threads.
 
-ghost use Rattle.std.specs.Prelude.{◌≡◌, ◌<◌, [], length, IfOk, IfErr, IfSome, MatchResult, string_bytes, option_map};
+ghost use Rattle.std.specs.Prelude.{◌≡◌, ◌<◌, length, false, IfOk, IfErr, IfSome, MatchResult, string_bytes, option_map};
 ghost use Rattle.luflow.specs.Variables.{outputs_of};
 ghost use Rattle.lurun_reports.specs.Reports.{AreOutputsOf};
 ghost use Rattle.lurun_rows.specs.Rows.{AreRowsOf};
@@ -9,6 +9,8 @@ ghost use Rattle.lutab.specs.Outputs.{output_text};
 ghost use Rattle.lusdist_call.specs.Ran.{IsRunError, IsRunReply, IsStopOfRun};
 ghost use Rattle.lusdist_call.specs.Files.{dump_for, run_path};
 ghost use Rattle.lusdist_call.specs.Waved.{run_dump};
+ghost use Rattle.lusdist_call.specs.Violations.{has_lines, shown_flows, violations};
+ghost use Rattle.clap.specs.Walk.{texts};
 
 use crate::evaluating::fault_stop;
 use crate::filing::dump_of_run;
@@ -16,7 +18,7 @@ use luflow::Outputs;
 use luplace::{Job, Plan};
 use lurun::{Gate, RunError, run_crew, run_threads, stations};
 use lurun_rows::{SiteStation, list_stations, row_stations, run_rows};
-use lusdist_call::{CallError, Reply};
+use lusdist_call::{CallError, Reply, column_violations};
 use lusdist_shell::{Progress, RunRequest};
 use lutab::write_outputs;
 use std::alloc::{AllocError, Global};
@@ -211,7 +213,7 @@ fn run_outputs<R: Threads + Wait + Clock + Sync, P: Progress>(
     }
 }
 
-/// The table of a run's outputs, and their dump, where the request asks for one.
+/// The table of a run's outputs, their dump, where the request asks for one, and what is told of those that are observed.
 fn reported_outputs(
     alloc: Global,
     request: RunRequest<'_>,
@@ -223,11 +225,16 @@ fn reported_outputs(
     ensures dump { IfOk result (λ reply. option_map string_bytes reply.dump
         ≡ dump_for (run_path request.entry) (run_dump request.entry.main.now plan.now
         outputs.now)) }
-    ensures notes { IfOk result (λ reply. string_bytes reply.notes ≡ []) }
+    ensures notes { IfOk result (λ reply. string_bytes reply.notes
+        ≡ violations (texts request.entry.always.now)
+        (shown_flows false plan.now.flat outputs.now)) }
+    ensures violated { IfOk result (λ reply. reply.violated
+        ≡ has_lines (string_bytes reply.notes)) }
 {
     let text = write_outputs(alloc, plan.flat(), outputs)?;
     let dump = dump_of_run(alloc, request, plan, outputs)?;
-    Ok(Reply::new(alloc, text, dump))
+    let told = column_violations(alloc, request.always, plan.flat(), false, outputs)?;
+    Ok(Reply::new(text, told, dump))
 }
 
 /// The table of the outputs of a job that is run as a request asks for, and their dump, where the request asks for one; or why there is

@@ -1,6 +1,6 @@
 -- What each command answers: a text, notes beside it, and a dump, by what the files gave.
-use Rattle.std.specs.Prelude.{◌≡◌, ℕ, true, false, if◌then◌else◌, List, [], ◌∷◌, ◌++◌, Option, Some, None}
-use Rattle.std.specs.Prelude.{string_bytes, option_map}
+use Rattle.std.specs.Prelude.{◌≡◌, ℕ, Bool, true, false, if◌then◌else◌, List, [], ◌∷◌, ◌++◌, Option, Some}
+use Rattle.std.specs.Prelude.{None, string_bytes, option_map}
 use Rattle.lutree.specs.declared.program.Program.{Program}
 use Rattle.lutree.specs.Places.{places_view}
 use Rattle.lutree.specs.Tree.{ProgramTree, program_view}
@@ -45,6 +45,8 @@ use Rattle.lusdist_call.specs.Explained.{code_in, explanation}
 use Rattle.lusdist_call.specs.Files.{dump_for, replay_path, run_path}
 use Rattle.lusdist_call.specs.Noted.{AreReplayNotes}
 use Rattle.lusdist_call.specs.RunReportTexts.{run_report_text, IsReportedBy}
+use Rattle.clap.specs.Walk.{texts}
+use Rattle.lusdist_call.specs.Violations.{AreViolationsOf, has_lines, shown_flows, unobserved, violations}
 use Rattle.lusdist_call.specs.Waved.{run_dump, IsWorldDump, AreSignalsTrue}
 
 -- what goes to the error stream beside a check: where they are asked for, all warnings of the program that
@@ -90,25 +92,31 @@ pub record IsPlanned (gives : FileFacts) (request : PlanRequest) (text notes : L
   pub notes_are : notes ≡ plan_notes request plan
 
 -- The world of a job after its turns, which keeps what the source says: its text, the notes of what the turns
--- did and of why its sites stand still, and its dump.
-pub record IsPrinted (request : ReplayRequest) (job : JobView) (turns text notes : List ℕ)
+-- did, of why its sites stand still, and of outputs that are observed, and its dump.
+pub record IsPrinted (request : ReplayRequest) (job : JobView) (turns text notes : List ℕ) (violated : Bool)
     (dump : Option (List ℕ)) : Type 0 where
   pub world : WorldView
   pub world_is : IsWorldOf job turns request.finish world
   pub faithful : IsFaithful world.job world.dones
   pub text_is : IsWorldText world text
-  pub notes_are : AreReplayNotes request job turns world notes
+  pub did : List ℕ
+  pub did_are : AreReplayNotes request job turns world did
+  pub told : List ℕ
+  pub told_are : AreViolationsOf (texts request.always.now) world told
+  pub notes_is : notes ≡ did ++ told
+  pub violated_is : violated ≡ has_lines told
   pub dump_is : IsWorldDump request.main.now world (replay_path request) dump
 
 -- What a replay of what a request asks for gives: text, notes and dump of the world of its job after its
 -- turns. What the text reports of links, sites and outputs, and the dump of outputs, is true of the
 -- program that the file spells, at the table that the file says: for each of its solutions.
-pub record IsReplayed (gives : FileFacts) (request : ReplayRequest) (text notes : List ℕ)
+pub record IsReplayed (gives : FileFacts) (request : ReplayRequest) (text notes : List ℕ) (violated : Bool)
     (dump : Option (List ℕ)) : Type 0 where
   pub job : JobView
   pub turns : List ℕ
   pub asked_for : IsAskedFor gives request job turns
-  pub printed : IsPrinted request job turns text notes dump
+  pub observed : unobserved job.plan.flat.variables (texts request.always.now) ≡ None
+  pub printed : IsPrinted request job turns text notes violated dump
   pub reported : RunReport
   pub reported_by : IsReportedBy printed.world reported
   pub spelled : text ≡ run_report_text reported
@@ -118,8 +126,9 @@ pub record IsReplayed (gives : FileFacts) (request : ReplayRequest) (text notes 
 
 -- What a run of what a request asks for gives: the table of the outputs of the program at the input table,
 -- and the dump of the same outputs, where one is asked for. Each is what every solution of the program
--- that the file spells gives that variable at all instants, and no operator is a fault.
-pub record IsRan (gives : FileFacts) (request : RunRequest) (text : List ℕ)
+-- that the file spells gives that variable at all instants, and no operator is a fault. The notes are what is
+-- told of outputs that are observed.
+pub record IsRan (gives : FileFacts) (request : RunRequest) (text notes : List ℕ)
     (dump : Option (List ℕ)) : Type 0 where
   pub job : JobView
   pub asked_for : IsJobFor gives request.program.now request.place.now request.table.now request.main.now job
@@ -127,28 +136,36 @@ pub record IsRan (gives : FileFacts) (request : RunRequest) (text : List ℕ)
   pub are_outputs : AreOutputsOf asked_for.job_is.flat.tree request.main.now job.plan.flat job.inputs outputs
   pub text_is : text ≡ output_text job.plan.flat outputs
   pub dump_is : dump ≡ dump_for (run_path request) (run_dump request.main.now job.plan outputs)
+  pub observed : unobserved job.plan.flat.variables (texts request.always.now) ≡ None
+  pub notes_are : notes ≡ violations (texts request.always.now) (shown_flows false job.plan.flat outputs)
 
--- neither notes nor a dump
-abbrev pub IsAlone : List ℕ → Option (List ℕ) → Type 0
-IsAlone notes dump = (notes ≡ []) × (dump ≡ None)
+-- nothing is violated, and there is no dump
+abbrev pub IsPlain : Bool → Option (List ℕ) → Type 0
+IsPlain violated dump = (violated ≡ false) × (dump ≡ None)
 
--- the text of what a request asks for, the notes that go to the error stream, and the dump
-abbrev pub IsAnswer : FileFacts → Request → List ℕ → List ℕ → Option (List ℕ) → Type 0
-IsAnswer gives (Check request) text notes dump = IsChecked gives request text notes × (dump ≡ None)
-IsAnswer gives (Eval request) text notes dump = IsEvaluated gives request text dump × (notes ≡ [])
-IsAnswer gives (Plan request) text notes dump = IsPlanned gives request text notes × (dump ≡ None)
-IsAnswer gives (Replay request) text notes dump = IsReplayed gives request text notes dump
-IsAnswer gives (AsksRun request) text notes dump = IsRan gives request text dump × (notes ≡ [])
-IsAnswer gives (Explain request) text notes dump =
-    (explanation (code_in request) ≡ Some text) × IsAlone notes dump
+-- the text of what a request asks for, the notes that go to the error stream, whether these tell that an
+-- output that is observed is violated, and the dump
+abbrev pub IsAnswer : FileFacts → Request → List ℕ → List ℕ → Bool → Option (List ℕ) → Type 0
+IsAnswer gives (Check request) text notes violated dump =
+    IsChecked gives request text notes × IsPlain violated dump
+IsAnswer gives (Eval request) text notes violated dump =
+    IsEvaluated gives request text notes dump × (violated ≡ has_lines notes)
+IsAnswer gives (Plan request) text notes violated dump =
+    IsPlanned gives request text notes × IsPlain violated dump
+IsAnswer gives (Replay request) text notes violated dump = IsReplayed gives request text notes violated dump
+IsAnswer gives (AsksRun request) text notes violated dump =
+    IsRan gives request text notes dump × (violated ≡ has_lines notes)
+IsAnswer gives (Explain request) text notes violated dump =
+    (explanation (code_in request) ≡ Some text) × (notes ≡ []) × IsPlain violated dump
 
 -- a reply has the text, the notes and the dump of what a request asks for
 abbrev pub IsReplyTo : FileFacts → Request → Reply → Type 0
 IsReplyTo gives request reply =
-    IsAnswer gives request (string_bytes reply.text) (string_bytes reply.notes)
+    IsAnswer gives request (string_bytes reply.text) (string_bytes reply.notes) reply.violated
     (option_map string_bytes reply.dump)
 
--- a request asks for nothing beside its answer: for no warnings, and of a replay for no turns and no words
+-- a request asks for nothing beside its answer but that nothing is violated: for no warnings, and of a replay
+-- for no turns and no words
 abbrev pub IsQuiet : Request → Type 0
 IsQuiet (Check request) = request.warn ≡ false
 IsQuiet (Plan request) = request.warn ≡ false
@@ -159,10 +176,10 @@ IsQuiet _ = Unit {0}
 abbrev pub AskForNoNotes : List (List ℕ) → Type 0
 AskForNoNotes words = (request : Request) → IsAskedBy words request → IsQuiet request
 
--- the text of what the words ask for
+-- the text of what the words ask for, where nothing is violated
 pub record IsDone (gives : FileFacts) (words : List (List ℕ)) (text : List ℕ) : Type 0 where
   pub request : Request
   pub asked : IsAskedBy words request
   pub notes : List ℕ
   pub dump : Option (List ℕ)
-  pub answer : IsAnswer gives request text notes dump
+  pub answer : IsAnswer gives request text notes false dump

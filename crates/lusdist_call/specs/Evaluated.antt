@@ -27,6 +27,8 @@ use Rattle.luflow.specs.Faults.{IsFault}
 use Rattle.lusdist_shell.specs.declared.request.EvalRequest.{EvalRequest}
 use Rattle.lusdist_call.specs.Files.{dump_for, wave_path}
 use Rattle.lusdist_call.specs.Mistakes.{mistake_in}
+use Rattle.clap.specs.Walk.{texts}
+use Rattle.lusdist_call.specs.Violations.{shown_flows, unobserved, violations}
 use Rattle.lusdist_call.specs.declared.call_error.CallError.{CallError}
 use Rattle.lusdist_call.specs.declared.call_error.CallError.TheVariants.{Fault, OutOfMemory}
 use Rattle.lusdist_shell.specs.Files.{FileFacts}
@@ -102,14 +104,21 @@ abbrev pub wave_text : EvalRequest → FlatView → List OutputColumn → List �
 wave_text request flat columns =
     dump_text request.main.now flat.types (kinds_of (shown_of request.all flat.variables)) columns
 
--- what a request asks for of a flat program and a table, as a text, and the dump of it where one is asked for
-pub record IsShown (request : EvalRequest) (flat : FlatView) (inputs : InputsView) (text : List ℕ)
+-- what is told of outputs that are observed
+abbrev pub eval_notes : EvalRequest → FlatView → List OutputColumn → List ℕ
+eval_notes request flat columns =
+    violations (texts request.always.now) (shown_flows request.all flat columns)
+
+-- what a request asks for of a flat program and a table, as a text, the dump of it where one is asked for,
+-- and what is told of outputs that are observed
+pub record IsShown (request : EvalRequest) (flat : FlatView) (inputs : InputsView) (text notes : List ℕ)
     (dump : Option (List ℕ)) : Type 0 where
   pub columns : List OutputColumn
   pub are_columns : AreEvaluated flat inputs (shown_of request.all flat.variables) inputs.instants columns
   pub no_fault : HasNoFault flat inputs
   pub text_is : text ≡ shown_text request flat columns
   pub dump_is : dump ≡ dump_for (wave_path request) (wave_text request flat columns)
+  pub notes_are : notes ≡ eval_notes request flat columns
 
 -- where a dump is asked for, that of what a request asks for of the first n instants
 abbrev pub IsShownBefore : EvalRequest → FlatView → InputsView → ℕ → Option (List ℕ) → Option (List ℕ)
@@ -136,8 +145,9 @@ pub record IsPosedBy (gives : FileFacts) (request : EvalRequest) (flat : FlatVie
 
 -- The text of an evaluation: the outputs of the program that the files of a request gave, or all variables
 -- of its main node, in order of declaration, at the table that they gave; as a table or as a chart. The
--- dump, where one is asked for, is that of the same variables.
-pub record IsEvaluated (gives : FileFacts) (request : EvalRequest) (text : List ℕ)
+-- dump, where one is asked for, is that of the same variables. The notes are what is told of outputs that are
+-- observed.
+pub record IsEvaluated (gives : FileFacts) (request : EvalRequest) (text notes : List ℕ)
     (dump : Option (List ℕ)) : Type 0 where
   pub meant : mistake_in request ≡ None
   pub flat : FlatView
@@ -148,6 +158,8 @@ pub record IsEvaluated (gives : FileFacts) (request : EvalRequest) (text : List 
       (shown_of request.all flat.variables) columns
   pub text_is : text ≡ shown_text request flat columns
   pub dump_is : dump ≡ dump_for (wave_path request) (wave_text request flat columns)
+  pub observed : unobserved flat.variables (texts request.always.now) ≡ None
+  pub notes_are : notes ≡ eval_notes request flat columns
 
 -- the fault of the least instant, and there of the least rank, by the name of the main variable in whose
 -- equation it stands
@@ -219,3 +231,4 @@ pub record IsFaultOf (gives : FileFacts) (request : EvalRequest) (name : List �
   pub reported : IsFaultReported flat inputs name instant kind
   pub source : (σ : SourceStreams) → IsSourceSolution asked.tree request.main.now inputs σ
       → IsSourceFault asked.tree request.main.now inputs σ name instant kind
+  pub observed : unobserved flat.variables (texts request.always.now) ≡ None

@@ -1,5 +1,5 @@
 -- That a call has one outcome, where each file is what it is.
-use Rattle.std.specs.Prelude.{◌≡◌, ℕ, List, Option}
+use Rattle.std.specs.Prelude.{◌≡◌, ℕ, Bool, List, Option}
 use Rattle.lusyn.specs.declared.error.SynError.TheVariants as syn
 use Rattle.lustat_rules.specs.declared.error.StatError.TheVariants as rules
 use Rattle.lucore.specs.declared.error.CoreError.TheVariants as core
@@ -40,8 +40,10 @@ SaysNothing _ = ⊥
 -- of them; and what is refused has no answer.
 abbrev pub HasOneOutcome : FileFacts → Type 0
 HasOneOutcome gives =
-    HasOneText gives → (request : Request) (text notes : List ℕ) (dump : Option (List ℕ)) (stop : CallError)
-    → IsAnswer gives request text notes dump → IsRequestStopped gives request stop → SaysNothing stop
+    HasOneText gives → (request : Request) (text notes : List ℕ) (violated : Bool) (dump : Option (List ℕ))
+    (stop : CallError)
+    → IsAnswer gives request text notes violated dump → IsRequestStopped gives request stop
+    → SaysNothing stop
 
 -- Two refusals of one request have one status, where each file has one text or none and neither says nothing
 -- of them.

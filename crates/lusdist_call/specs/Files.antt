@@ -1,5 +1,5 @@
 -- The files that a call reads, and the file that its dump is written into.
-use Rattle.std.specs.Prelude.{◌≡◌, ℕ, Bool, true, false, List, [], ◌∷◌, Option, Some, None, option_map}
+use Rattle.std.specs.Prelude.{◌≡◌, ℕ, Bool, false, List, [], ◌∷◌, Option, Some, None, option_map}
 use Rattle.lusdist_shell.specs.Dumps.{Written}
 use Rattle.lusdist_shell.specs.Files.{FileFacts}
 use Rattle.lusdist_shell.specs.declared.request.EvalRequest.{EvalRequest}

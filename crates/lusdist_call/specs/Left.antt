@@ -1,5 +1,5 @@
 -- What a call leaves in its two streams and in files, and with which status it ends.
-use Rattle.std.specs.Prelude.{◌≡◌, ◌⊎◌, ℕ, true, false, List, [], Option, codes}
+use Rattle.std.specs.Prelude.{◌≡◌, ◌⊎◌, ℕ, Bool, true, false, List, [], Option, codes}
 use Rattle.std.specs.Io.KnownBytes.{Appends}
 use Rattle.clap.specs.Words.{fault_of, IsAmong}
 use Rattle.clap.specs.declared.error.kind.ErrorKind.{ErrorKind}
@@ -19,7 +19,7 @@ use Rattle.lusdist_call.specs.Answers.{IsAnswer}
 use Rattle.lusdist_call.specs.Files.{dump_path, writes_of, IsUnfiled}
 use Rattle.lusdist_call.specs.Stopped.{IsRequestStopped, IsStopDump}
 use Rattle.lusdist_call.specs.Targets.{KeepsFiles, IsOver, IsShut}
-use Rattle.lusdist_call.specs.Statuses.{status_of}
+use Rattle.lusdist_call.specs.Statuses.{status_of, status_beside}
 use Rattle.lusdist_call.specs.Reasons.{HasRefusal}
 use Rattle.lusdist_shell.specs.Files.{FileFacts}
 
@@ -58,19 +58,21 @@ pub record HasNoOutput {W V : Type 0} (streams : Streams W V) : Type 0 where
 
 -- The dump of what a request asks for: beside its answer, or that of a stop.
 pub data IsDumpOf (gives : FileFacts) (request : Request) (dump : Option (List ℕ)) : Type 0 where
-  beside : (text notes : List ℕ) → IsAnswer gives request text notes dump → IsDumpOf gives request dump
+  beside : (text notes : List ℕ) (violated : Bool) → IsAnswer gives request text notes violated dump
+      → IsDumpOf gives request dump
   before : (stop : CallError) → IsRequestStopped gives request stop → IsStopDump gives request stop dump
       → IsDumpOf gives request dump
 
--- What is asked for ends with this status, and these writes: with 0 where the answer is printed, with its
--- notes on the error stream; with that of a refusal, whose line is reported, and its reason where that is
--- asked for; with 3 where the dump couldn't be written, which is reported in place of the rest; or with 3
--- where the answer couldn't be written, of which the output has a prefix. Where there is a dump, all of it
--- was written first.
+-- What is asked for ends with this status, and these writes: where the answer is printed, with its notes on
+-- the error stream, with 3 where an output that is observed is violated, and else with 0; with that of a
+-- refusal, whose line is reported, and its reason where that is asked for; with 3 where the dump couldn't be
+-- written, which is reported in place of the rest; or with 3 where the answer couldn't be written, of which
+-- the output has a prefix. Where there is a dump, all of it was written first.
 pub data IsEnded {W V : Type 0} (gives : FileFacts) (request : Request) (status : ℕ) (wrote : List Written)
     (streams : Streams W V) : Type 0 where
-  answered : (text notes : List ℕ) (dump : Option (List ℕ)) → status ≡ 0
-      → IsAnswer gives request text notes dump → wrote ≡ writes_of (dump_path request) dump true
+  answered : (text notes : List ℕ) (violated : Bool) (dump : Option (List ℕ))
+      → status ≡ status_beside violated
+      → IsAnswer gives request text notes violated dump → wrote ≡ writes_of (dump_path request) dump true
       → HasOutput streams text notes → IsEnded gives request status wrote streams
   refused : (stop : CallError) (dump : Option (List ℕ)) → status ≡ status_of stop
       → IsRequestStopped gives request stop → IsStopDump gives request stop dump
@@ -79,8 +81,8 @@ pub data IsEnded {W V : Type 0} (gives : FileFacts) (request : Request) (status 
   undumped : (stop : CallError) (dump : Option (List ℕ)) → status ≡ 3 → IsDumpOf gives request dump
       → IsUnfiled (dump_path request) dump stop wrote → HasStopped gives request stop streams
       → IsEnded gives request status wrote streams
-  unwritten : (text notes : List ℕ) (dump : Option (List ℕ)) → status ≡ 3
-      → IsAnswer gives request text notes dump → wrote ≡ writes_of (dump_path request) dump true
+  unwritten : (text notes : List ℕ) (violated : Bool) (dump : Option (List ℕ)) → status ≡ 3
+      → IsAnswer gives request text notes violated dump → wrote ≡ writes_of (dump_path request) dump true
       → HasNoOutput streams → HasBeginning streams.held_out streams.out streams.out_after text
       → IsEnded gives request status wrote streams
 

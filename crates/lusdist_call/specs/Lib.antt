@@ -17,3 +17,4 @@ pub mod Lines
 pub mod Files
 pub mod Targets
 pub mod Headline
+pub mod Violations

@@ -4,7 +4,7 @@ use Rattle.std.specs.Fmt.{decimal}
 use Rattle.lusdist_shell.specs.declared.request.EvalRequest.{EvalRequest}
 use Rattle.lusdist_call.specs.declared.mistake.Mistake.{Mistake}
 use Rattle.lusdist_call.specs.declared.mistake.Mistake.TheVariants.{UnknownCode, NoChart, Backwards}
-use Rattle.lusdist_call.specs.declared.mistake.Mistake.TheVariants.{Overwritten, TwoForms}
+use Rattle.lusdist_call.specs.declared.mistake.Mistake.TheVariants.{Overwritten, TwoForms, Unobserved}
 use Rattle.lusdist_call.specs.declared.role.Role.{Role}
 use Rattle.lusdist_call.specs.declared.role.Role.TheVariants.{Program, Place, Table, Schedule}
 
@@ -24,6 +24,8 @@ line_of (Backwards from to) =
 line_of (Overwritten path role) =
     codes "error: --vcd " ++ (path ++ (codes " is the " ++ (role_text role ++ codes " of this call")))
 line_of TwoForms = codes "error: --text and --chronogram ask for two forms"
+line_of (Unobserved name) =
+    codes "error: --always " ++ (name ++ codes " is no bool output of the main node")
 
 -- instants are given for a chart alone
 abbrev pub chartless : Option ℕ → Option ℕ → Option Mistake

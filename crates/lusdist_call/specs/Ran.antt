@@ -1,5 +1,5 @@
 -- What a run of a job on threads gives.
-use Rattle.std.specs.Prelude.{◌≡◌, ℕ, List, [], option_map, string_bytes}
+use Rattle.std.specs.Prelude.{◌≡◌, ℕ, List, false, option_map, string_bytes}
 use Rattle.luflow.specs.Tables.{OutputColumn}
 use Rattle.luflow.specs.Variables.{variable_name}
 use Rattle.luworld.specs.Jobs.{JobView}
@@ -11,6 +11,8 @@ use Rattle.lutab.specs.Outputs.{output_text}
 use Rattle.lusdist_shell.specs.declared.request.RunRequest.{RunRequest}
 use Rattle.lusdist_call.specs.declared.reply.Reply.{Reply}
 use Rattle.lusdist_call.specs.Files.{dump_for, run_path}
+use Rattle.clap.specs.Walk.{texts}
+use Rattle.lusdist_call.specs.Violations.{has_lines, shown_flows, violations}
 use Rattle.lusdist_call.specs.Waved.{run_dump}
 use Rattle.lusdist_call.specs.declared.call_error.CallError.{CallError}
 use Rattle.lusdist_call.specs.declared.call_error.CallError.TheVariants.{Fault, LinkLost, NoThread}
@@ -39,11 +41,14 @@ IsStopOfRun job NoThread = Unit {0}
 IsStopOfRun job OutOfMemory = Unit {0}
 IsStopOfRun job _ = ⊥
 
--- what a run of a job gives: the table of its outputs, and the dump of the same, where one is asked for
+-- what a run of a job gives: the table of its outputs, the dump of the same, where one is asked for, and what
+-- is told of outputs that are observed
 pub record IsRunReply (job : JobView) (request : RunRequest) (reply : Reply) : Type 0 where
   pub outputs : List OutputColumn
   pub are_outputs : AreOutputsOf job outputs
   pub text_is : string_bytes reply.text ≡ output_text job.plan.flat outputs
   pub dump_is : option_map string_bytes reply.dump ≡ dump_for (run_path request)
       (run_dump request.main.now job.plan outputs)
-  pub no_notes : string_bytes reply.notes ≡ []
+  pub notes_are : string_bytes reply.notes
+      ≡ violations (texts request.always.now) (shown_flows false job.plan.flat outputs)
+  pub violated_is : reply.violated ≡ has_lines (string_bytes reply.notes)

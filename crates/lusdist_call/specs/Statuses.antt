@@ -1,5 +1,5 @@
 -- The exit statuses of a call that stops.
-use Rattle.std.specs.Prelude.{ℕ}
+use Rattle.std.specs.Prelude.{ℕ, Bool, true, false}
 use Rattle.lusyn.specs.declared.error.SynError.TheVariants as syn
 use Rattle.lustat_rules.specs.declared.error.StatError.TheVariants as rules
 use Rattle.lucore.specs.declared.error.CoreError.TheVariants as core
@@ -29,3 +29,8 @@ status_of LinkLost = 3
 status_of NoThread = 3
 status_of OutOfMemory = 3
 status_of _ = 1
+
+-- that of a call that answers: 3 where an output that is observed is violated, else 0
+abbrev pub status_beside : Bool → ℕ
+status_beside true = 3
+status_beside false = 0

@@ -2,7 +2,7 @@
 use Rattle.std.specs.Prelude.{◌≡◌, ◌⊎◌, ℕ, List, Option, Some, None, Err, option_map, string_bytes}
 use Rattle.lutree.specs.Places.{ProgramPlaces}
 use Rattle.lutree.specs.Tree.{ProgramTree}
-use Rattle.luflow.specs.Program.{FlatView}
+use Rattle.luflow.specs.Program.{FlatView, InputsView}
 use Rattle.luflow.specs.Variables.{inputs_of}
 use Rattle.luflow.specs.declared.form.FaultKind.{FaultKind}
 use Rattle.luworld.specs.Needs.{PlanView}
@@ -21,7 +21,7 @@ use Rattle.lusdist_shell.specs.declared.request.Request.TheVariants.{Check, Eval
 use Rattle.lusdist_shell.specs.declared.request.Request.TheVariants.{Run as AsksRun, Explain}
 use Rattle.lusdist_shell.specs.Request.{IsAskedBy}
 use Rattle.lusdist_call.specs.declared.call_error.CallError.{CallError}
-use Rattle.lusdist_call.specs.declared.call_error.CallError.TheVariants.{CannotRead, Schedule}
+use Rattle.lusdist_call.specs.declared.call_error.CallError.TheVariants.{Schedule}
 use Rattle.lusdist_call.specs.declared.call_error.CallError.TheVariants.{Fault, LinkLost, NoThread}
 use Rattle.lusdist_call.specs.declared.call_error.CallError.TheVariants.{OutOfMemory, Mistaken}
 use Rattle.lusdist_call.specs.declared.mistake.Mistake.{Mistake}
@@ -34,7 +34,10 @@ use Rattle.lusource.specs.Source.{SourceStreams, IsSourceSolution}
 use Rattle.lusource.specs.Faults.{IsSourceFault}
 use Rattle.lusite.specs.Machine.{IsFaultAt}
 use Rattle.lusdist_call.specs.Asked.{HasFlat, IsPlanFor, IsJobFor, IsAskedFor}
-use Rattle.lusdist_call.specs.Evaluated.{IsFaultOf, IsDumpedTo}
+use Rattle.lusdist_call.specs.Evaluated.{IsFaultOf, IsDumpedTo, IsPosedBy}
+use Rattle.lusdist_call.specs.Violations.{unobserved}
+use Rattle.clap.specs.Walk.{texts}
+use Rattle.lusdist_call.specs.declared.mistake.Mistake.TheVariants.{Unobserved}
 use Rattle.lusdist_call.specs.Explained.{code_in, IsExplainStopped}
 use Rattle.lusdist_call.specs.Refused.{IsReportedOf, IsProgramRefused, IsPlaceRefused, IsTableRefused}
 use Rattle.lusdist_shell.specs.Files.{FileFacts}
@@ -77,6 +80,12 @@ pub data StopsAtPlan (gives : FileFacts) (path place_path main : List ℕ) (stop
       → HasFlat program main flat → gives place_path (Some place) → IsPlaceRefused flat place stop
       → StopsAtPlan gives path place_path main stop
 
+-- A name that is observed is no bool output of the main node: the first such.
+pub record IsUnobserved (flat : FlatView) (names : List (List ℕ)) (stop : CallError) : Type 0 where
+  pub name : List ℕ
+  pub first : unobserved flat.variables names ≡ Some name
+  pub is : stop ≡ Mistaken (Unobserved name)
+
 -- a check of what a request asks for stops so
 pub data IsCheckStopped (gives : FileFacts) (request : CheckRequest) (stop : CallError) : Type 0 where
   check_program : StopsAtProgram gives request.program.now request.main.now stop
@@ -84,7 +93,7 @@ pub data IsCheckStopped (gives : FileFacts) (request : CheckRequest) (stop : Cal
   check_memory : stop ≡ OutOfMemory → IsCheckStopped gives request stop
 
 -- An evaluation of what a request asks for stops so: at its program; where that has a flat program, at its
--- table; or at the first fault.
+-- table; where there is one, at a name that is observed; or at the first fault.
 pub data IsEvalStopped (gives : FileFacts) (request : EvalRequest) (stop : CallError) : Type 0 where
   eval_program : StopsAtProgram gives request.program.now request.main.now stop
       → IsEvalStopped gives request stop
@@ -96,6 +105,8 @@ pub data IsEvalStopped (gives : FileFacts) (request : EvalRequest) (stop : CallE
       → IsTableRefused flat.types (inputs_of flat.variables) table stop → IsEvalStopped gives request stop
   eval_fault : (name : List ℕ) (instant : ℕ) (kind : FaultKind) → stop ≡ Fault name instant kind
       → IsFaultOf gives request name instant kind → IsEvalStopped gives request stop
+  eval_unobserved : (flat : FlatView) (inputs : InputsView) → IsPosedBy gives request flat inputs
+      → IsUnobserved flat (texts request.always.now) stop → IsEvalStopped gives request stop
   eval_memory : stop ≡ OutOfMemory → IsEvalStopped gives request stop
 
 -- What a request asks of an evaluation stops so: at what can't be meant; or, where it can be, at its files
@@ -124,7 +135,8 @@ pub data StopsAtJob (gives : FileFacts) (path place_path table_path main : List 
       → IsTableRefused plan.flat.types (inputs_of plan.flat.variables) table stop
       → StopsAtJob gives path place_path table_path main stop
 
--- A replay of what a request asks for stops so: at its job; or, where there is one, at its schedule.
+-- A replay of what a request asks for stops so: at its job; where there is one, at its schedule; or, where
+-- that is one, at a name that is observed.
 pub data IsReplayStopped (gives : FileFacts) (request : ReplayRequest) (stop : CallError) : Type 0 where
   replay_job : StopsAtJob gives request.program.now request.place.now request.table.now request.main.now stop
       → IsReplayStopped gives request stop
@@ -135,6 +147,8 @@ pub data IsReplayStopped (gives : FileFacts) (request : ReplayRequest) (stop : C
       → IsJobFor gives request.program.now request.place.now request.table.now request.main.now job
       → gives request.schedule.now (Some turns) → IsScheduleRefused turns stop
       → IsReplayStopped gives request stop
+  replay_unobserved : (job : JobView) (turns : List ℕ) → IsAskedFor gives request job turns
+      → IsUnobserved job.plan.flat (texts request.always.now) stop → IsReplayStopped gives request stop
   replay_memory : stop ≡ OutOfMemory → IsReplayStopped gives request stop
 
 -- A fault of the run that a request asks for, reported by the name of the main variable in whose equation it
@@ -149,9 +163,10 @@ pub record IsRunFault (gives : FileFacts) (request : RunRequest) (name : List �
   pub named : name ≡ variable_name job.plan.flat variable
   pub source : (σ : SourceStreams) → IsSourceSolution asked_for.job_is.flat.tree request.main.now job.inputs σ
       → IsSourceFault asked_for.job_is.flat.tree request.main.now job.inputs σ name instant kind
+  pub observed : unobserved job.plan.flat.variables (texts request.always.now) ≡ None
 
--- A run of what a request asks for stops so: at its job; or, where there is one, at a fault, or because a
--- site was left by another or a thread was refused.
+-- A run of what a request asks for stops so: at its job; or, where there is one, at a name that is observed,
+-- at a fault, or because a site was left by another or a thread was refused.
 pub data IsRunStopped (gives : FileFacts) (request : RunRequest) (stop : CallError) : Type 0 where
   run_job : StopsAtJob gives request.program.now request.place.now request.table.now request.main.now stop
       → IsRunStopped gives request stop
@@ -163,6 +178,9 @@ pub data IsRunStopped (gives : FileFacts) (request : RunRequest) (stop : CallErr
   run_thread : (job : JobView)
       → IsJobFor gives request.program.now request.place.now request.table.now request.main.now job
       → stop ≡ NoThread → IsRunStopped gives request stop
+  run_unobserved : (job : JobView)
+      → IsJobFor gives request.program.now request.place.now request.table.now request.main.now job
+      → IsUnobserved job.plan.flat (texts request.always.now) stop → IsRunStopped gives request stop
   run_memory : stop ≡ OutOfMemory → IsRunStopped gives request stop
 
 -- what a request asks for stops so

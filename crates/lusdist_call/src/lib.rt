@@ -15,6 +15,7 @@
 //!   prints anything.
 //! - `specs/RunReportTexts.antt`: what a world reports, and the text of it.
 //! - `specs/Waved.antt`: the dumps of runs and replays.
+//! - `specs/Violations.antt`: which outputs are observed, and what is told of them.
 //! - `specs/Targets.antt`: where the dump of a call may go.
 //! - `specs/Reasons.antt`: what goes behind the line of a refusal. `specs/Left.antt`: how a call ends, and what it leaves.
 //!
@@ -23,6 +24,7 @@
 //! - [`CallError`]: why a call stops, and with which status; [`Mistake`]: what is wrong with words that the command line
 //!   takes. [`Role`]: what a file is to a call.
 //! - [`Reply`]: what a call answers, and [`put_reply`], which writes it; [`Refusal`]: why it stops, and the dump that it leaves.
+//! - [`observe`], [`column_violations`] and [`world_violations`]: outputs that are observed, and what is told of them.
 //! - [`read`] and [`file_dump`]: a file that is read, and one into which a dump is written.
 #![tactic(auto)]
 
@@ -32,10 +34,12 @@ mod mistake;
 mod refusal;
 mod reply;
 mod role;
+mod violations;
 
 pub use call_error::CallError;
 pub use files::{file_dump, read};
 pub use mistake::{Mistake, mistake_in};
 pub use refusal::Refusal;
-pub use reply::{Reply, put_reply};
+pub use reply::{Reply, put_reply, status_beside};
 pub use role::Role;
+pub use violations::{column_violations, observe, world_violations};

@@ -22,6 +22,8 @@ pub enum Mistake {
     Overwritten { path: Name, role: Role },
     /// A table and a chart are asked for at once.
     TwoForms,
+    /// What is to be observed is no bool output of the main node.
+    Unobserved { name: Name },
 }
 
 impl fmt::Display for Mistake {
@@ -45,6 +47,11 @@ impl fmt::Display for Mistake {
                 path.as_str()
             ),
             Mistake::TwoForms => f.write_str("error: --text and --chronogram ask for two forms"),
+            Mistake::Unobserved { name } => write!(
+                f,
+                "error: --always {} is no bool output of the main node",
+                name.as_str()
+            ),
         }
     }
 }

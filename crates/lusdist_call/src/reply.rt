@@ -1,30 +1,55 @@
 //! What a call answers that doesn't stop.
 
-ghost use Rattle.std.specs.Prelude.{◌≡◌, ◌⊎◌, [], true, None, string_bytes, codes};
+ghost use Rattle.std.specs.Prelude.{◌≡◌, ◌⊎◌, [], true, false, None, string_bytes, codes};
 ghost use Rattle.std.specs.Io.KnownBytes.{Appends};
 ghost use Rattle.lusdist_shell.specs.Sinks.{HasPut, HasLine, HasBeginning};
+ghost use Rattle.lusdist_call.specs.Statuses.{status_beside};
+ghost use Rattle.lusdist_call.specs.Violations.{has_lines};
 
 use lusdist_shell::{Sink, put_notes, put_out};
 use std::alloc::Global;
 use std::io::Write;
 
-/// What a call answers: a text for the output, notes for the error stream, and a dump for a file, where one is asked for.
+/// What a call answers: a text for the output, notes for the error stream, and a dump for a file, where one is asked for; and whether the
+/// notes tell that an output that is observed is violated.
 #[derive(Drop)]
 pub struct Reply {
     pub text: String,
     pub notes: String,
     pub dump: Option<String>,
+    pub violated: bool,
 }
 
 impl Reply {
-    /// A text, and a dump or none, without notes.
-    pub fn new(alloc: Global, text: String, dump: Option<String>) -> Reply
+    /// A text, and a dump or none, with what is told of outputs that are observed.
+    pub fn new(text: String, told: String, dump: Option<String>) -> Reply
         ensures text { result.text ≡ text }
-        ensures notes { string_bytes result.notes ≡ [] }
+        ensures notes { result.notes ≡ told }
         ensures dump { result.dump ≡ dump }
+        ensures violated { result.violated ≡ has_lines (string_bytes told) }
     {
-        let notes = String::new(alloc);
-        Reply { text, notes, dump }
+        let violated = !told.is_empty();
+        Reply {
+            text,
+            notes: told,
+            dump,
+            violated,
+        }
+    }
+
+    /// A text with notes alone, which tell of nothing that is observed.
+    pub fn noted(text: String, notes: String) -> Reply
+        ensures text { result.text ≡ text }
+        ensures notes { result.notes ≡ notes }
+        ensures dump { result.dump ≡ None }
+        ensures violated { result.violated ≡ false }
+    {
+        Reply {
+            text,
+            notes,
+            dump: None,
+            violated: false,
+        }
     }
 
     /// A text alone.
@@ -32,9 +57,17 @@ impl Reply {
         ensures text { result.text ≡ text }
         ensures notes { string_bytes result.notes ≡ [] }
         ensures dump { result.dump ≡ None }
+        ensures violated { result.violated ≡ false }
     {
-        Reply::new(alloc, text, None)
+        Reply::noted(text, String::new(alloc))
     }
+}
+
+/// The status of a call that answers, by whether an output that is observed is violated: 3, else 0.
+pub fn status_beside(violated: bool) -> u8
+    ensures { result ≡ status_beside violated }
+{
+    if violated { 3 } else { 0 }
 }
 
 /// Writes a text to the output, and then its notes to the error stream. Answers the status: 0, or 3 where the output can't be

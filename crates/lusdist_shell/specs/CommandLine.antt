@@ -3,7 +3,7 @@ use Rattle.std.specs.Prelude.{ℕ, [], ◌∷◌, true, codes, Some}
 use Rattle.lulimits.specs.Limits.{most_workers}
 use Rattle.clap.specs.Walk.{Rule, Text}
 use Rattle.clap.specs.Simple.{App, new_app, new_rule, on_top, with_rule, with_subcommand}
-use Rattle.clap.specs.declared.builder.action.ArgAction.TheVariants.{Set, SetTrue}
+use Rattle.clap.specs.declared.builder.action.ArgAction.TheVariants.{Set, SetTrue, Append}
 use Rattle.clap.specs.declared.builder.value_parser.ValueParser.TheVariants.{Unsigned}
 
 -- a path that must be given
@@ -50,14 +50,23 @@ instant_rule name = record (new_rule name) {
 abbrev pub vcd_rule : Rule
 vcd_rule = record (new_rule (codes "vcd")) { long = Some (codes "vcd"); value_names = 1 }
 
+-- `--always NAME`, which may be given more than once
+abbrev pub always_rule : Rule
+always_rule = record (new_rule (codes "always")) {
+  long = Some (codes "always");
+  value_names = 1;
+  action = Some Append;
+}
+
 -- `eval PROGRAM TABLE [--main NAME] [--explain] [--short] [--all] [--text] [--chronogram] [--from T] [--to T]
--- [--vcd FILE]`
+-- [--vcd FILE] [--always NAME]..`
 abbrev pub eval : App
 eval =
-    with_rule (with_rule
+    with_rule (with_rule (with_rule
     (with_rule (with_rule (with_rule (with_rule (with_rule (with_rule (judging (codes "eval"))
     (flag_rule (codes "all"))) (flag_rule (codes "text"))) (flag_rule (codes "chronogram")))
-    (instant_rule (codes "from"))) (instant_rule (codes "to"))) vcd_rule) (path_rule (codes "PROGRAM")))
+    (instant_rule (codes "from"))) (instant_rule (codes "to"))) vcd_rule) always_rule)
+    (path_rule (codes "PROGRAM")))
     (path_rule (codes "TABLE"))
 
 -- `plan PROGRAM PLACE [--main NAME] [--explain] [--short] [--warn] [--text] [--dot]`
@@ -68,13 +77,13 @@ plan =
     (path_rule (codes "PLACE"))
 
 -- `replay PROGRAM PLACE TABLE SCHEDULE [--main NAME] [--explain] [--short] [--finish] [--trace] [--chart]
--- [--messages] [--blocked] [--vcd FILE]`
+-- [--messages] [--blocked] [--vcd FILE] [--always NAME]..`
 abbrev pub replay : App
 replay =
-    with_rule (with_rule (with_rule (with_rule
+    with_rule (with_rule (with_rule (with_rule (with_rule
     (with_rule (with_rule (with_rule (with_rule (with_rule (with_rule (judging (codes "replay"))
     (flag_rule (codes "finish"))) (flag_rule (codes "trace"))) (flag_rule (codes "chart")))
-    (flag_rule (codes "messages"))) (flag_rule (codes "blocked"))) vcd_rule)
+    (flag_rule (codes "messages"))) (flag_rule (codes "blocked"))) vcd_rule) always_rule)
     (path_rule (codes "PROGRAM"))) (path_rule (codes "PLACE"))) (path_rule (codes "TABLE")))
     (path_rule (codes "SCHEDULE"))
 
@@ -90,13 +99,14 @@ workers_rule = record (new_rule (codes "workers")) {
   parser = Some (Unsigned fewest_workers most_workers);
 }
 
--- `run PROGRAM PLACE TABLE [--main NAME] [--explain] [--short] [--workers W] [--progress] [--items] [--vcd FILE]`
+-- `run PROGRAM PLACE TABLE [--main NAME] [--explain] [--short] [--workers W] [--progress] [--items]
+-- [--vcd FILE] [--always NAME]..`
 abbrev pub run : App
 run =
     with_rule (with_rule
-    (with_rule (with_rule (with_rule (with_rule (with_rule (judging (codes "run")) workers_rule)
-    (flag_rule (codes "progress"))) (flag_rule (codes "items"))) vcd_rule) (path_rule (codes "PROGRAM")))
-    (path_rule (codes "PLACE"))) (path_rule (codes "TABLE"))
+    (with_rule (with_rule (with_rule (with_rule (with_rule (with_rule (judging (codes "run")) workers_rule)
+    (flag_rule (codes "progress"))) (flag_rule (codes "items"))) vcd_rule) always_rule)
+    (path_rule (codes "PROGRAM"))) (path_rule (codes "PLACE"))) (path_rule (codes "TABLE"))
 
 -- a code, which may be left out
 abbrev pub code_rule : Rule

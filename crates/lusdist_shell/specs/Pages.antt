@@ -5,7 +5,7 @@ use Rattle.std.specs.List.{flat_map}
 use Rattle.lusdist_shell.specs.declared.clocks.TheConstants.{E20, E21, E22, E23}
 use Rattle.lusdist_shell.specs.declared.names.TheConstants.{E10, E11, E12, E13, E14, E15, E16, E17, E18, E19}
 use Rattle.lusdist_shell.specs.declared.placements.TheConstants.{P01, P02, P03, P04, P05, P06, P07, P08}
-use Rattle.lusdist_shell.specs.declared.runs.TheConstants.{R1, R2, R3, R4}
+use Rattle.lusdist_shell.specs.declared.runs.TheConstants.{R1, A1, R2, R3, R4}
 use Rattle.lusdist_shell.specs.declared.schedules.TheConstants.{S01, S02}
 use Rattle.lusdist_shell.specs.declared.starts.TheConstants.{E30, E31, E40, E50}
 use Rattle.lusdist_shell.specs.declared.tables.TheConstants.{T01, T02, T03, T04}
@@ -101,6 +101,7 @@ schedules =
 unfoldable pub runs : List Page
 runs =
     record { code = codes "R1"; name = codes "Fault"; text = R1.now } ∷
+    record { code = codes "A1"; name = codes "Violated"; text = A1.now } ∷
     record { code = codes "R2"; name = codes "OutOfMemory"; text = R2.now } ∷
     record { code = codes "R3"; name = codes "LinkLost"; text = R3.now } ∷
     record { code = codes "R4"; name = codes "NoThread"; text = R4.now } ∷

@@ -1,6 +1,7 @@
 -- What a command line asks for.
 use Rattle.std.specs.Prelude.{◌≡◌, ◌⊎◌, ◌≤◌, ℕ, Bool, IfSome, List, [], codes, unwrap_or, Option, Some, None}
 use Rattle.std.specs.Prelude.{if◌then◌else◌, option_map}
+use Rattle.clap.specs.Walk.{all_of, texts}
 use Rattle.std.specs.Str.{bytes_eq}
 use Rattle.std.specs.Str.Parse.{digits_value, without_leading_plus}
 use Rattle.clap.specs.Values.{IsUnsignedIn}
@@ -28,6 +29,10 @@ text_in matches argument = unwrap_or (first_of argument matches) []
 -- whether the matches of a command hold a flag
 abbrev pub is_given : List Row → Text → Bool
 is_given matches flag = bytes_eq (text_in matches flag) (codes "true")
+
+-- all texts that the matches of a command hold for an argument, in the order of the words
+abbrev pub texts_in : List Row → Text → List Text
+texts_in matches argument = unwrap_or (all_of argument matches) []
 
 -- a graph where `--dot` is given, else a table where `--text` is, else the report
 abbrev pub form_in : List Row → PlanForm
@@ -91,6 +96,7 @@ pub record IsEvalIn (command : Option (Text × List Row)) (request : EvalRequest
   pub to : IsInstantIn (first_of (codes "to") matches) request.to
   pub vcd : option_map (λ s. s.now) request.vcd ≡ first_of (codes "vcd") matches
   pub aligned : request.aligned ≡ is_given matches (codes "text")
+  pub always : texts request.always.now ≡ texts_in matches (codes "always")
 
 -- The command is `plan`, and the request is what its matches hold, argument by argument.
 pub record IsPlanIn (command : Option (Text × List Row)) (request : PlanRequest) : Type 0 where
@@ -120,6 +126,7 @@ pub record IsReplayIn (command : Option (Text × List Row)) (request : ReplayReq
   pub vcd : option_map (λ s. s.now) request.vcd ≡ first_of (codes "vcd") matches
   pub messages : request.messages ≡ is_given matches (codes "messages")
   pub blocked : request.blocked ≡ is_given matches (codes "blocked")
+  pub always : texts request.always.now ≡ texts_in matches (codes "always")
 
 -- The command is `run`, and the request is what its matches hold, argument by argument.
 pub record IsRunIn (command : Option (Text × List Row)) (request : RunRequest) : Type 0 where
@@ -135,6 +142,7 @@ pub record IsRunIn (command : Option (Text × List Row)) (request : RunRequest) 
   pub progress : request.progress ≡ is_given matches (codes "progress")
   pub items : request.items ≡ is_given matches (codes "items")
   pub vcd : option_map (λ s. s.now) request.vcd ≡ first_of (codes "vcd") matches
+  pub always : texts request.always.now ≡ texts_in matches (codes "always")
   pub few : AreFew request.workers
 
 -- The command is `explain`, and the request has the code that its matches hold, where they hold one.

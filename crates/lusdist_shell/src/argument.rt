@@ -2,7 +2,7 @@
 
 ghost use Rattle.std.specs.Prelude.{◌≡◌, false};
 ghost use Rattle.clap.specs.Words.{rule_of};
-ghost use Rattle.lusdist_shell.specs.CommandLine.{path_rule, main_rule, flag_rule, instant_rule, vcd_rule, workers_rule, code_rule};
+ghost use Rattle.lusdist_shell.specs.CommandLine.{path_rule, main_rule, flag_rule, instant_rule, vcd_rule, workers_rule, code_rule, always_rule};
 ghost use Rattle.lusdist_shell.specs.Arguments.{rule_in};
 
 use clap::builder::ValueParser;
@@ -33,6 +33,8 @@ pub enum Argument<'a> {
     Workers,
     /// The code of a page, which may be left out.
     Code,
+    /// The name of an output that is observed.
+    Always,
 }
 
 /// A path that must be given.
@@ -116,6 +118,20 @@ fn code<'a>(alloc: Global) -> Arg<'a>
         .help("The code, such as E20; without it all codes are listed")
 }
 
+/// The name of an output that is observed, which may be given more than once.
+fn always<'a>(alloc: Global) -> Arg<'a>
+    ensures rule { rule_of result ≡ always_rule }
+    ensures local { result.global ≡ false }
+{
+    Arg::new(alloc, "always")
+        .long("always")
+        .value_name("NAME")
+        .action(ArgAction::Append)
+        .help(
+            "Tells on the error stream the first instant at which this bool output is false, with status 3; may be given more than once",
+        )
+}
+
 /// An argument, as the parser takes it.
 pub fn argument_of<'a>(alloc: Global, argument: Argument<'a>) -> Arg<'a>
     ensures rule { rule_of result ≡ rule_in argument.entry }
@@ -129,5 +145,6 @@ pub fn argument_of<'a>(alloc: Global, argument: Argument<'a>) -> Arg<'a>
         Argument::Vcd { help } => vcd(alloc, help),
         Argument::Workers => workers(alloc),
         Argument::Code => code(alloc),
+        Argument::Always => always(alloc),
     }
 }

@@ -19,8 +19,8 @@ const STATUSES: &str = "Exit status:
   0  the answer is printed; where a site of a replay faulted, the answer says so
   1  a text is refused
   2  a mistake on the command line, or a file that can't be read
-  3  a fault of an evaluation or a run, memory ran out, a thread can't be started,
-     or the output can't be written";
+  3  a fault of an evaluation or a run, an output of --always that is false,
+     memory ran out, a thread can't be started, or the output can't be written";
 
 /// A command: its name, what it does, and its arguments.
 #[derive(Clone, Copy)]
@@ -198,6 +198,7 @@ const TASKS: [Task<'static>; 6] = [
             FROM,
             TO,
             SHOWN_VCD,
+            Argument::Always,
             PROGRAM,
             TABLE,
         ],
@@ -229,6 +230,7 @@ const TASKS: [Task<'static>; 6] = [
             MESSAGES,
             BLOCKED,
             SITE_VCD,
+            Argument::Always,
             PROGRAM,
             PLACE,
             TABLE,
@@ -246,6 +248,7 @@ const TASKS: [Task<'static>; 6] = [
             PROGRESS,
             ITEMS,
             SITE_VCD,
+            Argument::Always,
             PROGRAM,
             PLACE,
             TABLE,

@@ -1,7 +1,8 @@
 //! What the program needs around the language: its command line, its files, its schedule, its two streams, and the
 //! manual of refusals and faults.
 //!
-//! - [`parse`] reads the command line into a [`Request`], and [`put_mistake`] shows what the parser says instead.
+//! - [`parse`] reads the command line, [`request_in`] says what it asks for, a [`Request`], and [`put_mistake`] shows what the parser
+//!   says instead.
 //! - [`Files`] is where texts come from: [`RealFiles`], or files in memory. [`Dumps`] is where a dump goes.
 //! - [`text_of`] sees bytes as text, where they are text.
 //! - [`read_schedule`] reads whose turn it is, turn by turn.
@@ -53,7 +54,7 @@ pub use progress::{Meter, Progress, Silent};
 pub use put::{put_mistake, put_notes, put_out, put_unread};
 pub use request::{
     CheckRequest, EvalRequest, ExplainRequest, PlanForm, PlanRequest, ReplayRequest, Request,
-    RunRequest, TurnsForm, parse,
+    RunRequest, TurnsForm, parse, request_in,
 };
 pub use schedule::{ScheduleError, read_schedule};
 pub use sink::Sink;

@@ -41,6 +41,7 @@ T04 TooLong
 S01 BadSchedule
 S02 LongSchedule
 R1 Fault
+A1 Violated
 R2 OutOfMemory
 R3 LinkLost
 R4 NoThread

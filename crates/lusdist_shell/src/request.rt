@@ -4,7 +4,8 @@ ghost use Rattle.std.specs.Prelude.{◌≡◌, IfOk, IfErr, map, option_map, tru
 ghost use Rattle.clap.specs.Words.{kind_of, takes, found_of, first_of, rows_of, subcommand_of, subcommand_rows_of, FailsBy, fault_of};
 ghost use Rattle.clap.specs.declared.error.kind.ErrorKind.TheVariants.{OutOfMemory};
 ghost use Rattle.lusdist_shell.specs.CommandLine.{lusdist};
-ghost use Rattle.lusdist_shell.specs.Request.{text_in, is_given, form_in, turns_in, IsCommand, IsCheckIn, IsEvalIn, IsPlanIn, IsReplayIn, IsRunIn, IsExplainIn, IsInstantIn, AreWorkersIn, AreFew, HasFewWorkers, IsFoundIn, IsAskedBy};
+ghost use Rattle.lusdist_shell.specs.Request.{text_in, is_given, form_in, turns_in, IsCommand, IsCheckIn, IsEvalIn, IsPlanIn, IsReplayIn, IsRunIn, IsExplainIn, IsInstantIn, AreWorkersIn, AreFew, HasFewWorkers, IsFoundIn, texts_in};
+ghost use Rattle.clap.specs.Walk.{texts};
 
 use crate::command::lusdist;
 use clap::{ArgMatches, Error};
@@ -53,6 +54,8 @@ pub struct EvalRequest<'a> {
     pub vcd: Option<&'a str>,
     /// Whether the columns of the table are aligned.
     pub aligned: bool,
+    /// The names of the outputs that are observed, in the order of the words.
+    pub always: &'a [&'a str],
 }
 
 /// How a plan is reported.
@@ -123,6 +126,8 @@ pub struct ReplayRequest<'a> {
     pub messages: bool,
     /// Whether the turns are reported too that found no room or no message.
     pub blocked: bool,
+    /// The names of the outputs that are observed, in the order of the words.
+    pub always: &'a [&'a str],
 }
 
 /// What a run is asked of.
@@ -149,6 +154,8 @@ pub struct RunRequest<'a> {
     pub items: bool,
     /// The path of the file that a dump of its outputs goes into, where one is asked for.
     pub vcd: Option<&'a str>,
+    /// The names of the outputs that are observed, in the order of the words.
+    pub always: &'a [&'a str],
 }
 
 /// What is to be explained.
@@ -183,6 +190,16 @@ fn text<'a>(matches: &ArgMatches<'a>, argument: &str) -> &'a str
         Some(text) => text,
         None => "",
     }
+}
+
+/// All texts of an argument, in the order of the words.
+fn texts<'m, 'a: 'm>(matches: &'m ArgMatches<'a>, argument: &str) -> &'m [&'m str]
+    ensures { texts result.now ≡ texts_in (rows_of (found_of matches.now)) argument.now }
+{
+    let Some(found) = matches.get_strs(argument) else {
+        return &[];
+    };
+    found
 }
 
 /// What the matches of `check` ask for.
@@ -229,7 +246,7 @@ fn vcd_in<'a>(matches: &ArgMatches<'a>) -> Option<&'a str>
 }
 
 /// What the matches of `eval` ask for.
-fn eval_in<'a>(matches: &ArgMatches<'a>) -> EvalRequest<'a>
+fn eval_in<'m, 'a: 'm>(matches: &'m ArgMatches<'a>) -> EvalRequest<'m>
     ensures { IsEvalIn (Some (codes "eval", rows_of (found_of matches.now))) result }
 {
     EvalRequest {
@@ -244,6 +261,7 @@ fn eval_in<'a>(matches: &ArgMatches<'a>) -> EvalRequest<'a>
         to: instant_in(matches, "to"),
         vcd: vcd_in(matches),
         aligned: is_given(matches, "text"),
+        always: texts(matches, "always"),
     }
 }
 
@@ -289,7 +307,7 @@ fn turns_in<'a>(matches: &ArgMatches<'a>) -> TurnsForm
 }
 
 /// What the matches of `replay` ask for.
-fn replay_in<'a>(matches: &ArgMatches<'a>) -> ReplayRequest<'a>
+fn replay_in<'m, 'a: 'm>(matches: &'m ArgMatches<'a>) -> ReplayRequest<'m>
     ensures { IsReplayIn (Some (codes "replay", rows_of (found_of matches.now))) result }
 {
     ReplayRequest {
@@ -305,6 +323,7 @@ fn replay_in<'a>(matches: &ArgMatches<'a>) -> ReplayRequest<'a>
         vcd: vcd_in(matches),
         messages: is_given(matches, "messages"),
         blocked: is_given(matches, "blocked"),
+        always: texts(matches, "always"),
     }
 }
 
@@ -333,7 +352,7 @@ fn workers_in<'a>(matches: &ArgMatches<'a>) -> Option<u8>
 }
 
 /// What the matches of `run` ask for.
-fn run_in<'a>(matches: &ArgMatches<'a>) -> RunRequest<'a>
+fn run_in<'m, 'a: 'm>(matches: &'m ArgMatches<'a>) -> RunRequest<'m>
     ensures { IsRunIn (Some (codes "run", rows_of (found_of matches.now))) result }
 {
     RunRequest {
@@ -347,6 +366,7 @@ fn run_in<'a>(matches: &ArgMatches<'a>) -> RunRequest<'a>
         progress: is_given(matches, "progress"),
         items: is_given(matches, "items"),
         vcd: vcd_in(matches),
+        always: texts(matches, "always"),
     }
 }
 
@@ -359,8 +379,8 @@ fn explain_in<'a>(matches: &ArgMatches<'a>) -> ExplainRequest<'a>
     }
 }
 
-/// What the matches of the one command ask for.
-fn request_in<'a>(matches: &ArgMatches<'a>) -> Request<'a>
+/// What the words of a command line ask for, of which these are the matches.
+pub fn request_in<'m, 'a: 'm>(matches: &'m ArgMatches<'a>) -> Request<'m>
     requires { IsCommand (subcommand_rows_of matches.now) }
     ensures found { IsFoundIn (subcommand_rows_of matches.now) result }
     ensures few { HasFewWorkers result }
@@ -378,23 +398,12 @@ fn request_in<'a>(matches: &ArgMatches<'a>) -> Request<'a>
     }
 }
 
-/// What the words match.
-fn matches_in<'a>(alloc: Global, words: &'a [String]) -> Result<ArgMatches<'a>, Error>
+/// Reads the words of the command line, the program's own name first: `request_in` says what they ask for. What the parser says instead,
+/// help included, is shown by `put_mistake`.
+pub fn parse<'a>(alloc: Global, words: &'a [String]) -> Result<ArgMatches<'a>, Error>
     ensures command { IfOk result (λ m. IsCommand (subcommand_rows_of m)) }
     ensures matches { IfOk result (λ m. subcommand_rows_of m
         ≡ subcommand_of lusdist (map string_bytes words.entry.now)) }
-    ensures taken { IfErr result (λ e. takes lusdist (map string_bytes words.entry.now) ≡ true
-        → kind_of e ≡ OutOfMemory) }
-    ensures refused { FailsBy (fault_of lusdist (map string_bytes words.entry.now)) result }
-{
-    lusdist(alloc)?.try_get_matches_from(words)
-}
-
-/// Reads the words of the command line, the program's own name first. What the parser says instead, help included, is
-/// shown by `put_mistake`.
-pub fn parse<'a>(alloc: Global, words: &'a [String]) -> Result<Request<'a>, Error>
-    ensures asked { IfOk result (IsAskedBy (map string_bytes words.entry.now)) }
-    ensures few { IfOk result HasFewWorkers }
 
     // Words that the command line takes are refused only where memory ran out.
     ensures taken { IfErr result (λ e. takes lusdist (map string_bytes words.entry.now) ≡ true
@@ -403,6 +412,5 @@ pub fn parse<'a>(alloc: Global, words: &'a [String]) -> Result<Request<'a>, Erro
     // Other words are refused for what is wrong with them.
     ensures refused { FailsBy (fault_of lusdist (map string_bytes words.entry.now)) result }
 {
-    let matches = matches_in(alloc, words)?;
-    Ok(request_in(&matches))
+    lusdist(alloc)?.try_get_matches_from(words)
 }

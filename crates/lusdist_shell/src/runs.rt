@@ -104,6 +104,45 @@ program as on the pages above:
     output z 5 13
 ";
 
+/// The page of `A1 Violated`.
+pub const A1: &str = "A1 Violated
+
+The bool output that `--always NAME` observes is false at INSTANT, and at none
+before it. `eval`, `run` and `replay` tell it beside their answer, which is
+printed as ever, and end with status 3. It is a check at this table, and no
+proof for another one.
+
+A file `t.csv`:
+
+    level
+    12
+    22
+
+A file `p.lus`:
+
+    node main(level: int) returns (pump, safe: bool);
+    let
+      pump = level < 20;
+      safe = pump or level >= 25;
+    tel
+
+    $ lusdist eval p.lus t.csv --always safe
+    pump,safe
+    true,true
+    false,false
+    A1 Violated safe 1
+
+Instant 1 is line 3 of the table. Mend the program, or the observer where that
+asks for too much:
+
+      pump = level < 25;
+
+    $ lusdist eval p.lus t.csv --always safe
+    pump,safe
+    true,true
+    true,true
+";
+
 /// The page of `R2 OutOfMemory`.
 pub const R2: &str = "R2 OutOfMemory
 
@@ -137,6 +176,7 @@ pub fn page(code: &str) -> Option<&'static str>
 {
     match code {
         "R1" => Some(R1),
+        "A1" => Some(A1),
         "R2" => Some(R2),
         "R3" => Some(R3),
         "R4" => Some(R4),

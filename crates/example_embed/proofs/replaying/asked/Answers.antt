@@ -21,4 +21,5 @@ returns-clause-asked c = record {
   vcd = refl;
   messages = refl;
   blocked = refl;
+  always = refl;
 }

@@ -1,6 +1,6 @@
-use Rattle.std.proofs.Common.{Some, List, ℕ, refl, sym, subst, ◌∙◌, string_bytes}
+use Rattle.std.proofs.Common.{Some, List, ℕ, String, Global, ap, sym, subst, ◌∙◌, option_map, string_bytes}
 use Rattle.lusyn.specs.Places.{ArePlacesOf}
-use Rattle.lusyn.specs.Texts.{SpellsText}
+use Rattle.lusyn.specs.Texts.{IsReadBack, SpellsText}
 use Rattle.lusdist_call.specs.Answers.{AreCheckNotes}
 use Rattle.lutree.specs.Places.{places_view}
 use Rattle.lutree.specs.Tree.{program_view}
@@ -12,7 +12,8 @@ use Rattle.lusdist_answers.proofs.answering.check_answer.Goals as goal
 
 pub returns-clause-reply : goal.returns-clause-reply
 returns-clause-reply g c =
-    let gives = g.F.Files.gives c.args.files.now in (
+    let gives = g.F.Files.gives c.args.files.now in
+    let made = c.noted.ensures in (
       record {
         program = c.deref.result.now;
         tree = program_view c.in_ok-program.program;
@@ -20,11 +21,11 @@ returns-clause-reply g c =
         spelled = c.in_ok-program.ensures.spelled;
         flat = c.in_ok-_flat._flat;
         flat_is = c.in_ok-_flat.ensures.flat;
-        text_is = c.in_ok-text.ensures.canonical;
-        again = c.in_ok-text.ensures.again;
-        notes_are = subst (λ (b : List ℕ). AreCheckNotes c.args.request b (string_bytes c.in_ok-notes.notes)) (c.deref-2.ensures.value ∙ sym c.deref.ensures.value) c.in_ok-notes.ensures;
+        text_is = ap string_bytes made.text ∙ c.in_ok-text.ensures.canonical;
+        again = subst (λ (t : String Global). IsReadBack (string_bytes t) (program_view c.in_ok-program.program)) (sym made.text) c.in_ok-text.ensures.again;
+        notes_are = subst (λ (t : String Global). AreCheckNotes c.args.request c.deref.result.now (string_bytes t)) (sym made.notes) (subst (λ (b : List ℕ). AreCheckNotes c.args.request b (string_bytes c.in_ok-notes.notes)) (c.deref-2.ensures.value ∙ sym c.deref.ensures.value) c.in_ok-notes.ensures);
       },
-      refl,
+      (made.violated, ap (option_map string_bytes) made.dump),
     )
 
 pub returns-in_err-program-clause-stopped : goal.returns-in_err-program-clause-stopped

@@ -4,11 +4,11 @@ use Rattle.lusdist_answers.proofs.answering.evaluated.Goals as goal
 
 pub returns-clause-reply : goal.returns-clause-reply
 returns-clause-reply g c =
-    evaluated_reply (g.F.Files.gives c.args.files.now) c.args.request c.in_ok-flat.flat c.in_ok-flat.inputs c.requires c.in_ok-flat.ensures.posed c.evaluation.result c.evaluation.ensures.shown c.evaluation.ensures.notes
+    evaluated_reply (g.F.Files.gives c.args.files.now) c.args.request c.in_ok-flat.flat c.in_ok-flat.inputs c.requires c.in_ok-flat.ensures.posed c.in_ok-flat.ensures.observed c.evaluation.result c.evaluation.ensures.shown c.evaluation.ensures.violated
 
 pub returns-clause-stopped : goal.returns-clause-stopped
 returns-clause-stopped g c =
-    IfErr-weaker c.evaluation.result _ _ (λ refusal h. eval_stop (g.F.Files.gives c.args.files.now) c.args.request c.in_ok-flat.flat c.in_ok-flat.inputs c.in_ok-flat.ensures.posed refusal.error h) c.evaluation.ensures.stopped
+    IfErr-weaker c.evaluation.result _ _ (λ refusal h. eval_stop (g.F.Files.gives c.args.files.now) c.args.request c.in_ok-flat.flat c.in_ok-flat.inputs c.in_ok-flat.ensures.posed c.in_ok-flat.ensures.observed refusal.error h) c.evaluation.ensures.stopped
 
 pub returns-clause-before : goal.returns-clause-before
 returns-clause-before g c =

@@ -1,8 +1,9 @@
+use Rattle.std.proofs.Common.{inl, inr}
 use Rattle.std.proofs.lemmas.Result.{err_from_is_err_and}
 use Rattle.lusdist_answers.proofs.HasOutputs.{some_output}
 use Rattle.lusdist_answers.proofs.Stops.{at_program_none, at_table_none, stops_at_table}
-use Rattle.lusdist_answers.proofs.Outcomes.{posed}
-use Rattle.lusdist_call.specs.Stopped.IsEvalStopped.{eval_program}
+use Rattle.lusdist_answers.proofs.Outcomes.{posed, observe_none}
+use Rattle.lusdist_call.specs.Stopped.IsEvalStopped.{eval_program, eval_unobserved, eval_memory}
 use Rattle.lusdist_answers.proofs.answering.posed.Goals as goal
 
 pub returns-clause-posed : goal.returns-clause-posed
@@ -42,3 +43,27 @@ pub returns-in_err-inputs-clause-no_fault : goal.returns-in_err-inputs-clause-no
 returns-in_err-inputs-clause-no_fault g c =
     let p = err_from_is_err_and c.from_residual-in_err-inputs.result c.from_residual-in_err-inputs.ensures.1 in
     rw (p.1, p.2) (at_table_none (g.F.Files.gives c.args.files.now) c.args.request.table.now c.in_ok-flat.flat _ c.in_err-inputs.ensures.stopped)
+
+pub returns-in_err-observe-clause-stopped : goal.returns-in_err-observe-clause-stopped
+returns-in_err-observe-clause-stopped g c =
+    let p = err_from_is_err_and c.from_residual-in_err-observe.result c.from_residual-in_err-observe.ensures.1 in
+    let at = c.in_ok-flat.ensures.flat in
+    let here = c.in_ok-inputs.ensures.table in
+    rw (p.1, p.2) (elim c.in_err-observe.ensures.stopped [
+      | inl memory ↦ eval_memory memory
+      | inr un ↦ eval_unobserved c.in_ok-flat.flat c.in_ok-inputs.inputs
+          (record {
+            program = at.program;
+            table = here.table;
+            program_given = at.given;
+            table_given = here.given;
+            tree = at.flat_is.tree;
+            posed = posed at.program c.args.request.main.now here.table at.flat_is.tree c.in_ok-flat.flat c.in_ok-inputs.inputs at.flat_is.spelled at.flat_is.flat_is here.text here.short here.utf8 here.fits;
+          })
+          un
+    ])
+
+pub returns-in_err-observe-clause-no_fault : goal.returns-in_err-observe-clause-no_fault
+returns-in_err-observe-clause-no_fault g c =
+    let p = err_from_is_err_and c.from_residual-in_err-observe.result c.from_residual-in_err-observe.ensures.1 in
+    rw (p.1, p.2) (observe_none c.in_ok-flat.flat _ _ c.in_err-observe.ensures.stopped)

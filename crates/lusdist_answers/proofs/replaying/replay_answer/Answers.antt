@@ -13,7 +13,7 @@ returns-clause-reply g c =
     let job = c.in_ok-job.job in
     let turns = c.deref.result.now in
     let asked = subst (λ ts. IsAskedFor gives request job ts) (sym c.deref.ensures.value) c.in_ok-job.ensures.asked in
-    IfOk-weaker c.printed.result _ _ (λ reply printed. is_replayed gives request job turns (string_bytes reply.text) (string_bytes reply.notes) (option_map string_bytes reply.dump) asked printed) c.printed.ensures.printed
+    IfOk-weaker c.printed.result _ _ (λ reply printed. is_replayed gives request job turns (string_bytes reply.text) (string_bytes reply.notes) reply.violated (option_map string_bytes reply.dump) asked c.in_ok-job.ensures.observed printed) c.printed.ensures.printed
 
 pub returns-clause-stopped : goal.returns-clause-stopped
 returns-clause-stopped g c = IfErr-weaker c.printed.result _ _ (λ stop h. replay_memory h) c.printed.ensures.memory

@@ -6,7 +6,7 @@ use Rattle.clap.specs.Simple.{App, is_simple, subcommand_of}
 use Rattle.clap.specs.Takes.{takes}
 use Rattle.clap.specs.Walk.{Text}
 use Rattle.lusdist_shell.proofs.CommandLemmas.{command_from, lusdist_is_free, lusdist_is_simple}
-use Rattle.lusdist_shell.proofs.request.matches_in.Goals as goal
+use Rattle.lusdist_shell.proofs.request.parse.Goals as goal
 
 pub returns-clause-taken : goal.returns-clause-taken
 returns-clause-taken c =
