@@ -9,7 +9,7 @@ ghost use Rattle.example_embed.specs.Replayed.{IsTrueOfDesign};
 use crate::texts::{NoFile, Texts};
 use lusdist_answers::laws::headline_law;
 use lusdist_answers::serve;
-use lusdist_shell::{ReplayRequest, Silent, Sink, TurnsForm};
+use lusdist_shell::{ReplayRequest, Silent, Sink, TurnsForm, TurnsSource};
 use std::alloc::{AllocError, Global};
 use std::rt::Clock;
 use std::sync::Wait;
@@ -44,12 +44,14 @@ fn asked() -> ReplayRequest<'static>
         program: "design",
         place: "placement",
         table: "table",
-        schedule: "schedule",
+        source: TurnsSource::File("schedule"),
         finish: true,
         turns: TurnsForm::Nothing,
         vcd: None,
         messages: false,
         blocked: false,
+        from: None,
+        to: None,
         always: &[],
     }
 }

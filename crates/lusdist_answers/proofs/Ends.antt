@@ -10,7 +10,7 @@ use Rattle.luplace_file.specs.declared.error.PlaceError.TheVariants as place
 use Rattle.lutab.specs.declared.error.TabError.TheVariants as tab
 use Rattle.lusdist_shell.specs.declared.schedule.ScheduleError.TheVariants as schedule
 use Rattle.lusdist_shell.specs.declared.request.Request.{Request}
-use Rattle.lusdist_shell.specs.declared.request.Request.TheVariants.{Check, Eval, Plan, Replay, Run, Explain}
+use Rattle.lusdist_shell.specs.declared.request.Request.TheVariants.{Check, Eval, New, Plan, Replay, Run, Explain}
 use Rattle.lusdist_shell.specs.declared.request.ReplayRequest.{ReplayRequest}
 use Rattle.lusdist_shell.specs.declared.request.TurnsForm.{TurnsForm}
 use Rattle.lusdist_shell.specs.declared.request.TurnsForm.TheVariants.{Nothing}
@@ -24,10 +24,9 @@ use Rattle.lusdist_call.specs.Answers.AreCheckNotes.{unasked, warned}
 use Rattle.luplace_report.specs.Idle.{idle_text}
 use Rattle.luworld.specs.Jobs.{JobView}
 use Rattle.luworld.specs.Needs.{sites_of}
-use Rattle.luweave_text.specs.Stray.{stray_text}
 use Rattle.luworld.specs.WorldViews.{WorldView}
 use Rattle.lusdist_shell.specs.declared.request.CheckRequest.{CheckRequest}
-use Rattle.lusdist_call.specs.Noted.{AreNotesOf, AreStandsOf, AreReplayNotes}
+use Rattle.lusdist_call.specs.Noted.{AreNotesOf, AreStandsOf, AreReplayNotes, stray_of}
 use Rattle.lusdist_call.specs.Files.{IsUnfiled}
 use Rattle.lusdist_call.specs.Statuses.{status_of, status_beside}
 use Rattle.lusdist_call.specs.Violations.{has_lines}
@@ -37,7 +36,7 @@ use Rattle.lusdist_call.specs.Left.IsEnded.{answered, refused, undumped, unwritt
 use Rattle.lusdist_call.specs.Left.IsCallEnded.{overwriting, shut, no_memory}
 use Rattle.lusdist_call.specs.Lines.{line_of}
 use Rattle.lusdist_call.specs.Targets.{IsDumpRefused, AskOver}
-use Rattle.lusdist_call.specs.declared.mistake.Mistake.TheVariants.{UnknownCode, NoChart, Backwards, Overwritten, TwoForms, Unobserved}
+use Rattle.lusdist_call.specs.declared.mistake.Mistake.TheVariants.{UnknownCode, NoChart, Backwards, Overwritten, TwoForms, Unobserved, UnclearTurns, NoTurns}
 use Rattle.clap.specs.Words.{fault_of}
 use Rattle.lusdist_shell.specs.CommandLine.{lusdist}
 use Rattle.lusdist_shell.specs.Files.{FileFacts}
@@ -78,7 +77,7 @@ no_replay_notes : (request : ReplayRequest) (job : JobView) (turns : List ℕ) (
 no_replay_notes request job turns w notes quiet wordless are =
     let none = subst (λ (form : TurnsForm). AreNotesOf job turns request form w.dones are.of_turns) quiet are.turns_are in
     let no_sites = subst (λ (b : Bool). AreStandsOf b w are.of_sites) wordless are.sites_are in
-    let no_warnings = ap (λ (b : Bool). cond b (stray_text request.schedule.now (sites_of job.plan) turns) []) wordless in
+    let no_warnings = ap (λ (b : Bool). cond b (stray_of request.source (sites_of job.plan) turns) []) wordless in
     are.notes_are ∙ ap₂ (λ (xs ys : List ℕ). xs ++ ys) none (ap₂ (λ (xs ys : List ℕ). xs ++ ys) no_warnings no_sites)
 
 -- where nothing is violated, nothing is told
@@ -90,6 +89,7 @@ none_told (b ∷ bs) h = absurd cc
 no_notes : (gives : FileFacts) (request : Request) (text notes : List ℕ) (dump : Option (List ℕ)) → IsQuiet request → IsAnswer gives request text notes false dump → notes ≡ []
 no_notes gives (Check request) text notes dump quiet is = no_check_notes request is.0.program notes quiet is.0.notes_are
 no_notes gives (Eval request) text notes dump quiet is = none_told notes is.1
+no_notes gives (New request) text notes dump quiet is = is.1
 no_notes gives (Plan request) text notes dump quiet is = is.0.notes_are ∙ ap (λ (b : Bool). cond b (idle_text request.place.now is.0.plan) []) quiet
 no_notes gives (Run request) text notes dump quiet is = none_told notes is.1
 no_notes gives (Explain request) text notes dump quiet is = is.1
@@ -245,6 +245,8 @@ module _ (gives : FileFacts) (dumps : DumpFacts) (words : List (List ℕ)) (requ
   dump_ended streams status none (Mistaken (Unobserved name)) h e err = absurd h
   dump_ended streams status none (Mistaken (Overwritten path role)) h e err = overwriting request path role none asked h e refl err
   dump_ended streams status none (Mistaken TwoForms) h e err = absurd h
+  dump_ended streams status none (Mistaken UnclearTurns) h e err = absurd h
+  dump_ended streams status none (Mistaken NoTurns) h e err = absurd h
 
   -- with status 2 where the dump would take the place of a file, and else with 3
   pub dump_status : (stop : CallError) → IsDumpRefused dumps request stop → ((status_of stop ≡ 2) × AskOver dumps words) ⊎ (status_of stop ≡ 3)
@@ -267,3 +269,5 @@ module _ (gives : FileFacts) (dumps : DumpFacts) (words : List (List ℕ)) (requ
   dump_status (Mistaken (Unobserved name)) h = absurd h
   dump_status (Mistaken (Overwritten path role)) h = inl (refl, record { request = request; asked = asked; path = path; role = role; over = h })
   dump_status (Mistaken TwoForms) h = absurd h
+  dump_status (Mistaken UnclearTurns) h = absurd h
+  dump_status (Mistaken NoTurns) h = absurd h

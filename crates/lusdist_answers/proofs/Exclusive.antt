@@ -14,7 +14,7 @@ use Rattle.luflow.specs.Solution.{solution}
 use Rattle.luflow.specs.Variables.{inputs_of}
 use Rattle.luflow.proofs.Solutions.{IsSolution-solution}
 use Rattle.luflow.specs.Faults.{IsFault}
-use Rattle.luworld.specs.Needs.{PlanView}
+use Rattle.luworld.specs.Needs.{PlanView, sites_of}
 use Rattle.luworld.specs.Jobs.{JobView}
 use Rattle.lustat_rules.specs.Accepted.{Rule, Keeps, Breaks, program, enumeration, node, declaration, equation}
 use Rattle.lustat_rules.specs.Accepted as accepted
@@ -44,34 +44,41 @@ use Rattle.lusdist_shell.specs.declared.schedule.ScheduleError.{ScheduleError}
 use Rattle.lusdist_shell.specs.declared.schedule.ScheduleError.TheVariants as schedule
 use Rattle.lusdist_shell.specs.declared.request.CheckRequest.{CheckRequest}
 use Rattle.lusdist_shell.specs.declared.request.EvalRequest.{EvalRequest}
+use Rattle.lusdist_shell.specs.declared.request.NewRequest.{NewRequest}
 use Rattle.lusdist_shell.specs.declared.request.PlanRequest.{PlanRequest}
 use Rattle.lusdist_shell.specs.declared.request.ReplayRequest.{ReplayRequest}
 use Rattle.lusdist_shell.specs.declared.request.Request.{Request}
 use Rattle.lusdist_shell.specs.declared.request.RunRequest.{RunRequest}
-use Rattle.lusdist_shell.specs.declared.request.Request.TheVariants.{Check, Eval, Plan, Replay, Run as AsksRun, Explain}
+use Rattle.lusdist_shell.specs.declared.request.TurnsSource.{TurnsSource}
+use Rattle.lusdist_shell.specs.declared.request.TurnsSource.TheVariants.{File, Random, Unclear}
+use Rattle.lusdist_shell.specs.declared.request.Request.TheVariants.{Check, Eval, New, Plan, Replay, Run as AsksRun, Explain}
 use Rattle.lusdist_call.specs.declared.call_error.CallError.{CallError}
 use Rattle.lusdist_call.specs.declared.call_error.CallError.TheVariants.{CannotRead, CannotWrite, NotAscii, Syntax, Rules, Flat, Place as BadPlace, Table as BadTable, Schedule, Fault, LinkLost, NoThread, OutOfMemory, Mistaken}
+use Rattle.lusdist_call.specs.Begun.{IsBegun}
 use Rattle.lusdist_call.specs.Answers.{IsChecked, IsPlanned, IsReplayed, IsRan, IsAnswer}
-use Rattle.lusdist_call.specs.Asked.{HasFlat, IsPlanOfText, IsJobFor}
+use Rattle.lusdist_call.specs.Asked.{HasFlat, IsPlanOfText, IsJobFor, AreTurnsFrom}
 use Rattle.lusdist_call.specs.Evaluated.{IsPosedBy, IsEvaluated, IsFaultOf, IsFaultReported}
 use Rattle.lusdist_call.specs.Refused.{IsReportedOf, IsProgramRefused, IsTableRefused, IsPlaceRefused}
 use Rattle.lusdist_call.specs.Refused.IsReportedOf.{rule, flat}
 use Rattle.lusdist_call.specs.Explained.{code_in, explanation, IsExplainStopped}
 use Rattle.lusdist_call.specs.Explained.IsExplainStopped.{explain_unknown, explain_memory}
 use Rattle.lusdist_call.specs.Files.{IsUnread}
-use Rattle.lusdist_call.specs.Stopped.{IsScheduleRefused, HasNoFlat, StopsAtProgram, StopsAtPlan, StopsAtJob, IsCheckStopped, IsEvalRefused, IsEvalStopped, IsPlanStopped, IsReplayStopped, IsRunFault, IsRunStopped, IsRequestStopped, IsUnobserved}
+use Rattle.lusdist_call.specs.Stopped.{IsScheduleRefused, HasNoFlat, StopsAtProgram, StopsAtPlan, StopsAtJob, IsCheckStopped, IsEvalRefused, IsEvalStopped, IsNewStopped, IsPlanStopped, IsReplayStopped, IsReplayRefused, StopsAtTurns, IsRunFault, IsRunStopped, IsRequestStopped, IsUnobserved}
 use Rattle.lusdist_call.specs.Violations.{unobserved}
 use Rattle.clap.specs.Walk.{texts}
 use Rattle.lusdist_call.specs.Stopped.HasNoFlat.{unspelled, unruled}
 use Rattle.lusdist_call.specs.Stopped.StopsAtProgram.{program_unread, program_refused}
 use Rattle.lusdist_call.specs.Stopped.StopsAtPlan.{no_program, place_unread, place_refused}
 use Rattle.lusdist_call.specs.Stopped.IsCheckStopped.{check_program, check_memory}
-use Rattle.lusdist_call.specs.Mistakes.{mistake_in}
+use Rattle.lusdist_call.specs.Mistakes.{mistake_in, replay_mistake}
 use Rattle.lusdist_call.specs.Stopped.IsEvalRefused.{eval_mistaken, eval_stopped}
 use Rattle.lusdist_call.specs.Stopped.IsEvalStopped.{eval_program, eval_unread, eval_table, eval_fault, eval_unobserved, eval_memory}
+use Rattle.lusdist_call.specs.Stopped.IsNewStopped.{new_program, new_memory}
 use Rattle.lusdist_call.specs.Stopped.IsPlanStopped.{plan_files, plan_memory}
 use Rattle.lusdist_call.specs.Stopped.StopsAtJob.{no_plan, table_unread, table_refused}
-use Rattle.lusdist_call.specs.Stopped.IsReplayStopped.{replay_job, replay_unread, replay_schedule, replay_unobserved, replay_memory}
+use Rattle.lusdist_call.specs.Stopped.IsReplayStopped.{replay_job, replay_turns, replay_unobserved, replay_memory}
+use Rattle.lusdist_call.specs.Stopped.IsReplayRefused.{replay_mistaken, replay_stopped}
+use Rattle.lusdist_call.specs.Stopped.StopsAtSchedule.{no_schedule, bad_schedule}
 use Rattle.lusdist_call.specs.Stopped.IsRunStopped.{run_job, run_fault, run_lost, run_thread, run_unobserved, run_memory}
 use Rattle.lusdist_call.specs.Exact.{HasOneText, SaysNothing}
 use Rattle.std.proofs.lemmas.Option.{same_Some}
@@ -341,6 +348,11 @@ module _ (gives : FileFacts) (settled : HasOneText gives) where
   refused_outcome request text notes dump stop is (eval_mistaken mistake found e) = absurd (none_some (mistake_in request) mistake is.meant found)
   refused_outcome request text notes dump stop is (eval_stopped meant at) = eval_outcome request text notes dump stop is at
 
+  new_outcome : (request : NewRequest) (text : List ℕ) (stop : CallError) → IsBegun gives request text → IsNewStopped gives request stop → SaysNothing stop
+  new_outcome request text stop is (new_program at) =
+      program_memory request.program.now request.main.now is.flat_at.program is.flat stop is.flat_at.given is.flat_at.flat_is at
+  new_outcome request text stop is (new_memory e) = memory_is stop OutOfMemory e tt
+
   plan_outcome : (request : PlanRequest) (text notes : List ℕ) (stop : CallError) → IsPlanned gives request text notes → IsPlanStopped gives request stop → SaysNothing stop
   plan_outcome request text notes stop is (plan_files at) =
       let asked = is.asked_for in
@@ -364,17 +376,26 @@ module _ (gives : FileFacts) (settled : HasOneText gives) where
       let columns = subst (λ t. IsTextOf b.plan.flat.types (inputs_of b.plan.flat.variables) b.inputs t) table_same y.job_is.inputs in
       (flat_eq, one_table a.plan.flat.types (inputs_of a.plan.flat.variables) x.table b.inputs a.inputs (subst (λ (f : FlatView). IsTextOf f.types (inputs_of f.variables) b.inputs x.table) flat_eq columns) x.job_is.inputs)
 
+  -- nor do turns that come from a source
+  pub turns_memory : (source : TurnsSource) (sites : ℕ) (turns : List ℕ) (stop : CallError) → AreTurnsFrom gives source sites turns → StopsAtTurns gives source stop → SaysNothing stop
+  turns_memory (File path) sites turns stop are (no_schedule unread) = unread_memory path.now are.schedule stop are.given unread
+  turns_memory (File path) sites turns stop are (bad_schedule bytes given refused) =
+      let same = one_of path.now bytes are.schedule given are.given in
+      schedule_memory are.schedule turns stop are.turns_are (subst (λ b. IsScheduleRefused b stop) same refused)
+  turns_memory (Random seed count) sites turns stop are at = absurd at
+  turns_memory Unclear sites turns stop are at = absurd at
+
   module _ (request : ReplayRequest) (text notes : List ℕ) (violated : Bool) (dump : Option (List ℕ)) (stop : CallError) (is : IsReplayed gives request text notes violated dump) where
     replay_outcome : IsReplayStopped gives request stop → SaysNothing stop
     replay_outcome (replay_job at) = job_memory_of request.program.now request.place.now request.table.now request.main.now is.job stop is.asked_for.job_for at
-    replay_outcome (replay_unread job job_is unread) = unread_memory request.schedule.now is.asked_for.schedule_is.schedule stop is.asked_for.schedule_is.given unread
-    replay_outcome (replay_schedule job turns job_is schedule_given refused) =
-        let asked = is.asked_for.schedule_is in
-        let same = one_of request.schedule.now turns asked.schedule schedule_given asked.given in
-        schedule_memory asked.schedule is.turns stop asked.turns_are (subst (λ b. IsScheduleRefused b stop) same refused)
+    replay_outcome (replay_turns job job_is at) = turns_memory request.source (sites_of is.job.plan) is.turns stop is.asked_for.turns_are at
     replay_outcome (replay_unobserved job turns asked un) =
         never_unobserved (texts request.always.now) is.job.plan.flat job.plan.flat stop (jobs_one request.program.now request.place.now request.table.now request.main.now is.job job is.asked_for.job_for asked.job_for).0 is.observed un
     replay_outcome (replay_memory e) = memory_is stop OutOfMemory e tt
+
+    mistaken_outcome : IsReplayRefused gives request stop → SaysNothing stop
+    mistaken_outcome (replay_mistaken mistake found e) = absurd (none_some (replay_mistake request) mistake is.meant found)
+    mistaken_outcome (replay_stopped clear at) = replay_outcome at
 
   module _ (request : RunRequest) (text notes : List ℕ) (dump : Option (List ℕ)) (stop : CallError) (is : IsRan gives request text notes dump) where
     -- a run that has outputs has no fault
@@ -403,8 +424,9 @@ module _ (gives : FileFacts) (settled : HasOneText gives) where
   pub one_outcome_of : (request : Request) (text notes : List ℕ) (violated : Bool) (dump : Option (List ℕ)) (stop : CallError) → IsAnswer gives request text notes violated dump → IsRequestStopped gives request stop → SaysNothing stop
   one_outcome_of (Check request) text notes violated dump stop answer stopped = check_outcome request text notes stop answer.0 stopped
   one_outcome_of (Eval request) text notes violated dump stop answer stopped = refused_outcome request text notes dump stop answer.0 stopped
+  one_outcome_of (New request) text notes violated dump stop answer stopped = new_outcome request text stop answer.0 stopped
   one_outcome_of (Plan request) text notes violated dump stop answer stopped = plan_outcome request text notes stop answer.0 stopped
-  one_outcome_of (Replay request) text notes violated dump stop answer stopped = replay_outcome request text notes violated dump stop answer stopped
+  one_outcome_of (Replay request) text notes violated dump stop answer stopped = mistaken_outcome request text notes violated dump stop answer stopped
   one_outcome_of (AsksRun request) text notes violated dump stop answer stopped = run_outcome request text notes dump stop answer.0 stopped
   one_outcome_of (Explain request) text notes violated dump stop answer stopped = explain_outcome (code_in request) text stop answer.0 stopped
 

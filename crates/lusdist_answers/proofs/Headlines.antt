@@ -14,7 +14,7 @@ use Rattle.lusdist_shell.specs.Request.{text_in, IsFoundIn, IsReplayIn, IsRunIn}
 use Rattle.lusdist_shell.specs.declared.request.ReplayRequest.{ReplayRequest}
 use Rattle.lusdist_shell.specs.declared.request.RunRequest.{RunRequest}
 use Rattle.lusdist_shell.specs.declared.request.Request.{Request}
-use Rattle.lusdist_shell.specs.declared.request.Request.TheVariants.{Check, Eval, Plan, Replay, Run, Explain}
+use Rattle.lusdist_shell.specs.declared.request.Request.TheVariants.{Check, Eval, New, Plan, Replay, Run, Explain}
 use Rattle.lusdist_call.specs.Answers.{IsAnswer, IsReplayed, IsRan}
 use Rattle.lusdist_call.specs.Asked.{IsJobFor}
 use Rattle.lusdist_call.specs.Exact.{HasOneText}
@@ -113,6 +113,7 @@ module _ (gives : FileFacts) (settled : HasOneText gives) (command : Option (Tex
     replay_of : (other : Request) → IsFoundIn command other → IsAnswer gives other text notes false dump → IsTrueReplay program table request.main.now text
     replay_of (Check r) found answer = absurd (let e : 114 ≡ 99 = other_first (codes "replay") (codes "check") (same_name command (codes "replay") (codes "check") asked.matches found.matches asked.named found.named) in omega (arith, e))
     replay_of (Eval r) found answer = absurd (let e : 114 ≡ 101 = other_first (codes "replay") (codes "eval") (same_name command (codes "replay") (codes "eval") asked.matches found.matches asked.named found.named) in omega (arith, e))
+    replay_of (New r) found answer = absurd (let e : 114 ≡ 110 = other_first (codes "replay") (codes "new") (same_name command (codes "replay") (codes "new") asked.matches found.matches asked.named found.named) in omega (arith, e))
     replay_of (Plan r) found answer = absurd (let e : 114 ≡ 112 = other_first (codes "replay") (codes "plan") (same_name command (codes "replay") (codes "plan") asked.matches found.matches asked.named found.named) in omega (arith, e))
     replay_of (Run r) found answer = absurd (let e : 101 ≡ 117 = other_second (codes "replay") (codes "run") (same_name command (codes "replay") (codes "run") asked.matches found.matches asked.named found.named) in omega (arith, e))
     replay_of (Explain r) found answer = absurd (let e : 114 ≡ 101 = other_first (codes "replay") (codes "explain") (same_name command (codes "replay") (codes "explain") asked.matches found.matches asked.named found.named) in omega (arith, e))
@@ -134,6 +135,7 @@ module _ (gives : FileFacts) (settled : HasOneText gives) (command : Option (Tex
     run_of : (other : Request) → IsFoundIn command other → IsAnswer gives other text notes false dump → IsTrueRun program table request.main.now text
     run_of (Check r) found answer = absurd (let e : 114 ≡ 99 = other_first (codes "run") (codes "check") (same_name command (codes "run") (codes "check") asked.matches found.matches asked.named found.named) in omega (arith, e))
     run_of (Eval r) found answer = absurd (let e : 114 ≡ 101 = other_first (codes "run") (codes "eval") (same_name command (codes "run") (codes "eval") asked.matches found.matches asked.named found.named) in omega (arith, e))
+    run_of (New r) found answer = absurd (let e : 114 ≡ 110 = other_first (codes "run") (codes "new") (same_name command (codes "run") (codes "new") asked.matches found.matches asked.named found.named) in omega (arith, e))
     run_of (Plan r) found answer = absurd (let e : 114 ≡ 112 = other_first (codes "run") (codes "plan") (same_name command (codes "run") (codes "plan") asked.matches found.matches asked.named found.named) in omega (arith, e))
     run_of (Replay r) found answer = absurd (let e : 117 ≡ 101 = other_second (codes "run") (codes "replay") (same_name command (codes "run") (codes "replay") asked.matches found.matches asked.named found.named) in omega (arith, e))
     run_of (Explain r) found answer = absurd (let e : 114 ≡ 101 = other_first (codes "run") (codes "explain") (same_name command (codes "run") (codes "explain") asked.matches found.matches asked.named found.named) in omega (arith, e))

@@ -13,3 +13,4 @@ mod Stops
 mod Ends
 mod Headlines
 mod Tellings
+mod FirstNames

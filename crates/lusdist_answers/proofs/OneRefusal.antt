@@ -59,25 +59,30 @@ use Rattle.lusdist_shell.specs.declared.request.EvalRequest.{EvalRequest}
 use Rattle.lusdist_shell.specs.declared.request.ReplayRequest.{ReplayRequest}
 use Rattle.lusdist_shell.specs.declared.request.Request.{Request}
 use Rattle.lusdist_shell.specs.declared.request.RunRequest.{RunRequest}
-use Rattle.lusdist_shell.specs.declared.request.Request.TheVariants.{Check, Eval, Plan, Replay, Run as AsksRun, Explain}
+use Rattle.lusdist_shell.specs.declared.request.TurnsSource.{TurnsSource}
+use Rattle.lusdist_shell.specs.declared.request.TurnsSource.TheVariants.{File, Random, Unclear}
+use Rattle.lusdist_shell.specs.declared.request.Request.TheVariants.{Check, Eval, New, Plan, Replay, Run as AsksRun, Explain}
 use Rattle.lusdist_call.specs.declared.call_error.CallError.{CallError}
 use Rattle.lusdist_call.specs.declared.call_error.CallError.TheVariants.{CannotRead, CannotWrite, NotAscii, Syntax, Rules, Flat, Place as BadPlace, Table as BadTable, Schedule, Fault, LinkLost, NoThread, OutOfMemory, Mistaken}
 use Rattle.lusdist_call.specs.Evaluated.{IsFaultOf, IsFaultReported}
 use Rattle.lusdist_call.specs.Refused.{IsReportedOf, IsProgramRefused, IsPlaceRefused, IsTableRefused}
 use Rattle.lusdist_call.specs.Refused.IsReportedOf.{rule, flat}
 use Rattle.lusdist_call.specs.Files.{IsUnread}
-use Rattle.lusdist_call.specs.Stopped.{IsScheduleRefused, HasNoFlat, StopsAtProgram, StopsAtPlan, StopsAtJob, IsEvalRefused, IsEvalStopped, IsReplayStopped, IsRunStopped, IsRequestStopped, IsUnobserved}
+use Rattle.lusdist_call.specs.Stopped.{IsScheduleRefused, HasNoFlat, StopsAtProgram, StopsAtPlan, StopsAtJob, IsEvalRefused, IsEvalStopped, IsReplayStopped, IsReplayRefused, StopsAtTurns, IsRunStopped, IsRequestStopped, IsUnobserved}
 use Rattle.lusdist_call.specs.Stopped.HasNoFlat.{unspelled, unruled}
 use Rattle.lusdist_call.specs.Stopped.StopsAtProgram.{program_unread, program_refused}
 use Rattle.lusdist_call.specs.Stopped.StopsAtPlan.{no_program, place_unread, place_refused}
 use Rattle.lusdist_call.specs.Stopped.IsCheckStopped.{check_program, check_memory}
 use Rattle.lusdist_call.specs.declared.mistake.Mistake.{Mistake}
-use Rattle.lusdist_call.specs.Mistakes.{mistake_in}
+use Rattle.lusdist_call.specs.Mistakes.{mistake_in, replay_mistake}
 use Rattle.lusdist_call.specs.Stopped.IsEvalRefused.{eval_mistaken, eval_stopped}
 use Rattle.lusdist_call.specs.Stopped.IsEvalStopped.{eval_program, eval_unread, eval_table, eval_fault, eval_unobserved, eval_memory}
+use Rattle.lusdist_call.specs.Stopped.IsNewStopped.{new_program, new_memory}
 use Rattle.lusdist_call.specs.Stopped.IsPlanStopped.{plan_files, plan_memory}
 use Rattle.lusdist_call.specs.Stopped.StopsAtJob.{no_plan, table_unread, table_refused}
-use Rattle.lusdist_call.specs.Stopped.IsReplayStopped.{replay_job, replay_unread, replay_schedule, replay_unobserved, replay_memory}
+use Rattle.lusdist_call.specs.Stopped.IsReplayStopped.{replay_job, replay_turns, replay_unobserved, replay_memory}
+use Rattle.lusdist_call.specs.Stopped.IsReplayRefused.{replay_mistaken, replay_stopped}
+use Rattle.lusdist_call.specs.Stopped.StopsAtSchedule.{no_schedule, bad_schedule}
 use Rattle.lusdist_call.specs.Stopped.IsRunStopped.{run_job, run_fault, run_lost, run_thread, run_unobserved, run_memory}
 use Rattle.lusdist_call.specs.Exact.{HasOneText, SaysNothing, IsFaultOfRun}
 use Rattle.lusdist_call.specs.Explained.{code_in, IsExplainStopped}
@@ -481,32 +486,39 @@ module _ (gives : FileFacts) (settled : HasOneText gives) where
         let flat_eq = flats_one gives settled path main is.program also.program plan.flat other.flat is.program_given also.program_given is.flat also.flat in
         table_stop plan.flat other.flat table_path table text a b flat_eq given text_given x y na nb
 
+  turns_stop : (source : TurnsSource) (a b : CallError) → StopsAtTurns gives source a → StopsAtTurns gives source b → (¬ SaysNothing a) → (¬ SaysNothing b) → a ≡ b
+  turns_stop (File path) a b (no_schedule x) (no_schedule y) na nb = both_unread path.now a b x y na nb
+  turns_stop (File path) a b (no_schedule x) (bad_schedule bytes given y) na nb = never gives settled path.now bytes a given x na
+  turns_stop (File path) a b (bad_schedule bytes given x) (no_schedule y) na nb = never gives settled path.now bytes b given y nb
+  turns_stop (File path) a b (bad_schedule bytes given x) (bad_schedule others also y) na nb =
+      let there = subst (λ t. IsScheduleRefused t b) (one_of gives settled path.now others bytes also given) y in
+      one_of_kind (λ e. Schedule e) (λ e. schedule_of bytes ≡ Err e) a b (λ e f h k. err_same (schedule_of bytes) e f h k) (schedule_reported bytes a x) (schedule_reported bytes b there) na nb
+  turns_stop (Random seed count) a b x y na nb = absurd x
+  turns_stop Unclear a b x y na nb = absurd x
+
   module _ (request : ReplayRequest) where
     replay_stop : (a b : CallError) → IsReplayStopped gives request a → IsReplayStopped gives request b → (¬ SaysNothing a) → (¬ SaysNothing b) → a ≡ b
     replay_stop a b (replay_memory e) y na nb = absurd (na (memory_is a OutOfMemory e tt))
     replay_stop a b (replay_job x) (replay_memory e) na nb = absurd (nb (memory_is b OutOfMemory e tt))
     replay_stop a b (replay_job x) (replay_job y) na nb = job_stop request.program.now request.place.now request.table.now request.main.now a b x y na nb
-    replay_stop a b (replay_job x) (replay_unread job is y) na nb = replay_past gives settled request job a is x na
-    replay_stop a b (replay_job x) (replay_schedule job turns is given y) na nb = replay_past gives settled request job a is x na
-    replay_stop a b (replay_unread job is x) (replay_memory e) na nb = absurd (nb (memory_is b OutOfMemory e tt))
-    replay_stop a b (replay_unread job is x) (replay_job y) na nb = replay_past gives settled request job b is y nb
-    replay_stop a b (replay_unread job is x) (replay_unread other also y) na nb = both_unread request.schedule.now a b x y na nb
-    replay_stop a b (replay_unread job is x) (replay_schedule other turns also given y) na nb = never gives settled request.schedule.now turns a given x na
-    replay_stop a b (replay_schedule job turns is given x) (replay_memory e) na nb = absurd (nb (memory_is b OutOfMemory e tt))
-    replay_stop a b (replay_schedule job turns is given x) (replay_job y) na nb = replay_past gives settled request job b is y nb
-    replay_stop a b (replay_schedule job turns is given x) (replay_unread other also y) na nb = never gives settled request.schedule.now turns b given y nb
-    replay_stop a b (replay_schedule job turns is given x) (replay_schedule other others also others_given y) na nb =
-        let there = subst (λ t. IsScheduleRefused t b) (one_of gives settled request.schedule.now others turns others_given given) y in
-        one_of_kind (λ e. Schedule e) (λ e. schedule_of turns ≡ Err e) a b (λ e f h k. err_same (schedule_of turns) e f h k) (schedule_reported turns a x) (schedule_reported turns b there) na nb
+    replay_stop a b (replay_job x) (replay_turns job is y) na nb = replay_past gives settled request job a is x na
     replay_stop a b (replay_job x) (replay_unobserved job turns asked un) na nb = replay_past gives settled request job a asked.job_for x na
-    replay_stop a b (replay_unread job is x) (replay_unobserved other turns asked un) na nb = never gives settled request.schedule.now asked.schedule_is.schedule a asked.schedule_is.given x na
-    replay_stop a b (replay_schedule job bytes is given x) (replay_unobserved other turns asked un) na nb = turns_past gives settled request other turns bytes a asked given x na
+    replay_stop a b (replay_turns job is x) (replay_memory e) na nb = absurd (nb (memory_is b OutOfMemory e tt))
+    replay_stop a b (replay_turns job is x) (replay_job y) na nb = replay_past gives settled request job b is y nb
+    replay_stop a b (replay_turns job is x) (replay_turns other also y) na nb = turns_stop request.source a b x y na nb
+    replay_stop a b (replay_turns job is x) (replay_unobserved other turns asked un) na nb = turns_past gives settled request other turns a asked x na
     replay_stop a b (replay_unobserved job turns asked un) (replay_memory e) na nb = absurd (nb (memory_is b OutOfMemory e tt))
     replay_stop a b (replay_unobserved job turns asked un) (replay_job y) na nb = replay_past gives settled request job b asked.job_for y nb
-    replay_stop a b (replay_unobserved job turns asked un) (replay_unread other is y) na nb = never gives settled request.schedule.now asked.schedule_is.schedule b asked.schedule_is.given y nb
-    replay_stop a b (replay_unobserved job turns asked un) (replay_schedule other bytes is given y) na nb = turns_past gives settled request job turns bytes b asked given y nb
+    replay_stop a b (replay_unobserved job turns asked un) (replay_turns other is y) na nb = turns_past gives settled request job turns b asked y nb
     replay_stop a b (replay_unobserved job turns asked un) (replay_unobserved other more also un_too) na nb =
         one_unobserved (texts request.always.now) job.plan.flat other.plan.flat a b (jobs_one gives settled request.program.now request.place.now request.table.now request.main.now job other asked.job_for also.job_for).0 un un_too
+
+    mistaken_stop : (a b : CallError) → IsReplayRefused gives request a → IsReplayRefused gives request b → (¬ SaysNothing a) → (¬ SaysNothing b) → a ≡ b
+    mistaken_stop a b (replay_mistaken mistake found e) (replay_mistaken other also d) na nb =
+        e ∙ ap (λ (m : Mistake). Mistaken m) (same_Some mistake other (sym found ∙ also)) ∙ sym d
+    mistaken_stop a b (replay_mistaken mistake found e) (replay_stopped clear y) na nb = absurd (none_some (replay_mistake request) mistake clear found)
+    mistaken_stop a b (replay_stopped clear x) (replay_mistaken mistake found e) na nb = absurd (none_some (replay_mistake request) mistake clear found)
+    mistaken_stop a b (replay_stopped clear x) (replay_stopped same y) na nb = replay_stop a b x y na nb
 
   -- a fault of a run is reported on threads
   run_reported : (request : RunRequest) (stop : CallError) (name : List ℕ) (instant : ℕ) (kind : FaultKind) → stop ≡ Fault name instant kind → IsFaultOfRun (AsksRun request) stop
@@ -550,9 +562,12 @@ module _ (gives : FileFacts) (settled : HasOneText gives) where
   one_refusal_of (Check request) a b (check_memory e) y na nb nf = absurd (na (memory_is a OutOfMemory e tt))
   one_refusal_of (Check request) a b (check_program x) (check_memory e) na nb nf = absurd (nb (memory_is b OutOfMemory e tt))
   one_refusal_of (Eval request) a b x y na nb nf = refused_stop request a b x y na nb
+  one_refusal_of (New request) a b (new_program x) (new_program y) na nb nf = program_stop request.program.now request.main.now a b x y na nb
+  one_refusal_of (New request) a b (new_memory e) y na nb nf = absurd (na (memory_is a OutOfMemory e tt))
+  one_refusal_of (New request) a b (new_program x) (new_memory e) na nb nf = absurd (nb (memory_is b OutOfMemory e tt))
   one_refusal_of (Plan request) a b (plan_files x) (plan_files y) na nb nf = plan_stop request.program.now request.place.now request.main.now a b x y na nb
   one_refusal_of (Plan request) a b (plan_memory e) y na nb nf = absurd (na (memory_is a OutOfMemory e tt))
   one_refusal_of (Plan request) a b (plan_files x) (plan_memory e) na nb nf = absurd (nb (memory_is b OutOfMemory e tt))
-  one_refusal_of (Replay request) a b x y na nb nf = replay_stop request a b x y na nb
+  one_refusal_of (Replay request) a b x y na nb nf = mistaken_stop request a b x y na nb
   one_refusal_of (AsksRun request) a b x y na nb nf = run_stop request a b x y na nb nf
   one_refusal_of (Explain request) a b x y na nb nf = explain_stop (code_in request) a b x y na nb

@@ -3,7 +3,7 @@ use Rattle.std.proofs.Common.{◌≡◌, ℕ, List, Option, Some, None, refl, sy
 use Rattle.luflow.specs.Program.{FlatView, InputsView}
 use Rattle.luflow.specs.Variables.{inputs_of}
 use Rattle.luflow.specs.declared.form.FaultKind.{FaultKind}
-use Rattle.luworld.specs.Needs.{PlanView}
+use Rattle.luworld.specs.Needs.{PlanView, sites_of}
 use Rattle.luworld.specs.Jobs.{JobView}
 use Rattle.lusyn.specs.declared.error.SynError.TheVariants as syn
 use Rattle.lustat_rules.specs.declared.error.StatError.TheVariants as rules
@@ -15,7 +15,9 @@ use Rattle.lusdist_shell.specs.declared.request.EvalRequest.{EvalRequest}
 use Rattle.lusdist_shell.specs.declared.request.ReplayRequest.{ReplayRequest}
 use Rattle.lusdist_shell.specs.declared.request.Request.{Request}
 use Rattle.lusdist_shell.specs.declared.request.RunRequest.{RunRequest}
-use Rattle.lusdist_shell.specs.declared.request.Request.TheVariants.{Check, Eval, Plan, Replay, Run as AsksRun, Explain}
+use Rattle.lusdist_shell.specs.declared.request.TurnsSource.{TurnsSource}
+use Rattle.lusdist_shell.specs.declared.request.TurnsSource.TheVariants.{File, Random, Unclear}
+use Rattle.lusdist_shell.specs.declared.request.Request.TheVariants.{Check, Eval, New, Plan, Replay, Run as AsksRun, Explain}
 use Rattle.lusdist_call.specs.declared.call_error.CallError.{CallError}
 use Rattle.lusdist_call.specs.declared.call_error.CallError.TheVariants.{CannotRead, CannotWrite, NotAscii, Syntax, Rules, Flat, Place, Table, Schedule, Fault, LinkLost, NoThread, OutOfMemory, Mistaken}
 use Rattle.lusdist_call.specs.Statuses.{status_of}
@@ -25,22 +27,25 @@ use Rattle.clap.specs.Walk.{texts}
 use Rattle.lusdist_call.specs.Refused.{IsReportedOf, IsProgramRefused, IsPlaceRefused, IsTableRefused}
 use Rattle.lusdist_call.specs.Refused.IsReportedOf.{rule, flat}
 use Rattle.lusdist_call.specs.Files.{IsUnread}
-use Rattle.lusdist_call.specs.Stopped.{IsScheduleRefused, HasNoFlat, StopsAtProgram, StopsAtPlan, StopsAtJob, IsEvalRefused, IsEvalStopped, IsReplayStopped, IsRunFault, IsRunStopped, IsRequestStopped, IsUnobserved}
+use Rattle.lusdist_call.specs.Stopped.{IsScheduleRefused, HasNoFlat, StopsAtProgram, StopsAtPlan, StopsAtJob, IsEvalRefused, IsEvalStopped, IsReplayStopped, IsReplayRefused, StopsAtTurns, IsRunFault, IsRunStopped, IsRequestStopped, IsUnobserved}
 use Rattle.lusdist_call.specs.Stopped.HasNoFlat.{unspelled, unruled}
 use Rattle.lusdist_call.specs.Stopped.StopsAtProgram.{program_unread, program_refused}
 use Rattle.lusdist_call.specs.Stopped.StopsAtPlan.{no_program, place_unread, place_refused}
 use Rattle.lusdist_call.specs.Stopped.IsCheckStopped.{check_program, check_memory}
-use Rattle.lusdist_call.specs.Mistakes.{mistake_in}
+use Rattle.lusdist_call.specs.Mistakes.{mistake_in, replay_mistake}
 use Rattle.lusdist_call.specs.Stopped.IsEvalRefused.{eval_mistaken, eval_stopped}
 use Rattle.lusdist_call.specs.Stopped.IsEvalStopped.{eval_program, eval_unread, eval_table, eval_fault, eval_unobserved, eval_memory}
+use Rattle.lusdist_call.specs.Stopped.IsNewStopped.{new_program, new_memory}
 use Rattle.lusdist_call.specs.Stopped.IsPlanStopped.{plan_files, plan_memory}
 use Rattle.lusdist_call.specs.Stopped.StopsAtJob.{no_plan, table_unread, table_refused}
-use Rattle.lusdist_call.specs.Stopped.IsReplayStopped.{replay_job, replay_unread, replay_schedule, replay_unobserved, replay_memory}
+use Rattle.lusdist_call.specs.Stopped.IsReplayStopped.{replay_job, replay_turns, replay_unobserved, replay_memory}
+use Rattle.lusdist_call.specs.Stopped.IsReplayRefused.{replay_mistaken, replay_stopped}
+use Rattle.lusdist_call.specs.Stopped.StopsAtSchedule.{no_schedule, bad_schedule}
 use Rattle.lusdist_call.specs.Stopped.IsRunStopped.{run_job, run_fault, run_lost, run_thread, run_unobserved, run_memory}
 use Rattle.lusdist_call.specs.Exact.{HasOneText, SaysNothing}
 use Rattle.lusdist_call.specs.Explained.{code_in, IsExplainStopped}
 use Rattle.lusdist_call.specs.Explained.IsExplainStopped.{explain_unknown, explain_memory}
-use Rattle.lusdist_answers.proofs.Exclusive.{memory_is, none_some, unread_memory, program_memory, plan_memory_of, job_memory_of, refused_memory, posed_flat, one_of, jobs_one, schedule_memory, never_unobserved, posed_one}
+use Rattle.lusdist_answers.proofs.Exclusive.{memory_is, none_some, unread_memory, program_memory, plan_memory_of, job_memory_of, refused_memory, posed_flat, jobs_one, turns_memory, never_unobserved, posed_one}
 use Rattle.lusdist_shell.specs.Files.{FileFacts}
 
 -- ---- the status of a stop by what it is of
@@ -319,40 +324,44 @@ module _ (gives : FileFacts) (settled : HasOneText gives) where
     job_status a b (table_refused plan table is given x) (table_refused other text also text_given y) na nb =
         both_text a b (table_text plan.flat.types (inputs_of plan.flat.variables) table a x) (table_text other.flat.types (inputs_of other.flat.variables) text b y) na nb
 
+  -- two refusals of the turns from one source
+  turns_status : (source : TurnsSource) (a b : CallError) → StopsAtTurns gives source a → StopsAtTurns gives source b → (¬ SaysNothing a) → (¬ SaysNothing b) → status_of a ≡ status_of b
+  turns_status (File path) a b (no_schedule x) (no_schedule y) na nb = both_unread path.now path.now a b x y na nb
+  turns_status (File path) a b (no_schedule x) (bad_schedule bytes given y) na nb = never path.now bytes a given x na
+  turns_status (File path) a b (bad_schedule bytes given x) (no_schedule y) na nb = never path.now bytes b given y nb
+  turns_status (File path) a b (bad_schedule bytes given x) (bad_schedule others also y) na nb =
+      both_text a b (schedule_text bytes a x) (schedule_text others b y) na nb
+  turns_status (Random seed count) a b x y na nb = absurd x
+  turns_status Unclear a b x y na nb = absurd x
+
   module _ (request : ReplayRequest) where
     pub replay_past : {X : Type 0} (job : JobView) (stop : CallError) → IsJobFor gives request.program.now request.place.now request.table.now request.main.now job → StopsAtJob gives request.program.now request.place.now request.table.now request.main.now stop → (¬ SaysNothing stop) → X
     replay_past job stop is x not = past_job request.program.now request.place.now request.table.now request.main.now job stop is x not
 
-    -- nor is a schedule that is one
-    pub turns_past : {X : Type 0} (job : JobView) (turns bytes : List ℕ) (stop : CallError) → IsAskedFor gives request job turns → gives request.schedule.now (Some bytes) → IsScheduleRefused bytes stop → (¬ SaysNothing stop) → X
-    turns_past job turns bytes stop asked given refused not =
-        let read = asked.schedule_is in
-        let same = one_of gives settled request.schedule.now bytes read.schedule given read.given in
-        absurd (not (schedule_memory read.schedule turns stop read.turns_are (subst (λ b. IsScheduleRefused b stop) same refused)))
+    -- nor are turns that come from their source
+    pub turns_past : {X : Type 0} (job : JobView) (turns : List ℕ) (stop : CallError) → IsAskedFor gives request job turns → StopsAtTurns gives request.source stop → (¬ SaysNothing stop) → X
+    turns_past job turns stop asked at not = absurd (not (turns_memory gives settled request.source (sites_of job.plan) turns stop asked.turns_are at))
 
     replay_status : (a b : CallError) → IsReplayStopped gives request a → IsReplayStopped gives request b → (¬ SaysNothing a) → (¬ SaysNothing b) → status_of a ≡ status_of b
     replay_status a b (replay_memory e) y na nb = absurd (na (memory_is a OutOfMemory e tt))
     replay_status a b (replay_job x) (replay_memory e) na nb = absurd (nb (memory_is b OutOfMemory e tt))
     replay_status a b (replay_job x) (replay_job y) na nb = job_status request.program.now request.place.now request.table.now request.main.now a b x y na nb
-    replay_status a b (replay_job x) (replay_unread job is y) na nb = replay_past job a is x na
-    replay_status a b (replay_job x) (replay_schedule job turns is given y) na nb = replay_past job a is x na
-    replay_status a b (replay_unread job is x) (replay_memory e) na nb = absurd (nb (memory_is b OutOfMemory e tt))
-    replay_status a b (replay_unread job is x) (replay_job y) na nb = replay_past job b is y nb
-    replay_status a b (replay_unread job is x) (replay_unread other also y) na nb = both_unread request.schedule.now request.schedule.now a b x y na nb
-    replay_status a b (replay_unread job is x) (replay_schedule other turns also given y) na nb = never request.schedule.now turns a given x na
-    replay_status a b (replay_schedule job turns is given x) (replay_memory e) na nb = absurd (nb (memory_is b OutOfMemory e tt))
-    replay_status a b (replay_schedule job turns is given x) (replay_job y) na nb = replay_past job b is y nb
-    replay_status a b (replay_schedule job turns is given x) (replay_unread other also y) na nb = never request.schedule.now turns b given y nb
-    replay_status a b (replay_schedule job turns is given x) (replay_schedule other others also others_given y) na nb =
-        both_text a b (schedule_text turns a x) (schedule_text others b y) na nb
+    replay_status a b (replay_job x) (replay_turns job is y) na nb = replay_past job a is x na
     replay_status a b (replay_job x) (replay_unobserved job turns asked un) na nb = replay_past job a asked.job_for x na
-    replay_status a b (replay_unread job is x) (replay_unobserved other turns asked un) na nb = never request.schedule.now asked.schedule_is.schedule a asked.schedule_is.given x na
-    replay_status a b (replay_schedule job bytes is given x) (replay_unobserved other turns asked un) na nb = turns_past other turns bytes a asked given x na
+    replay_status a b (replay_turns job is x) (replay_memory e) na nb = absurd (nb (memory_is b OutOfMemory e tt))
+    replay_status a b (replay_turns job is x) (replay_job y) na nb = replay_past job b is y nb
+    replay_status a b (replay_turns job is x) (replay_turns other also y) na nb = turns_status request.source a b x y na nb
+    replay_status a b (replay_turns job is x) (replay_unobserved other turns asked un) na nb = turns_past other turns a asked x na
     replay_status a b (replay_unobserved job turns asked un) (replay_memory e) na nb = absurd (nb (memory_is b OutOfMemory e tt))
     replay_status a b (replay_unobserved job turns asked un) (replay_job y) na nb = replay_past job b asked.job_for y nb
-    replay_status a b (replay_unobserved job turns asked un) (replay_unread other is y) na nb = never request.schedule.now asked.schedule_is.schedule b asked.schedule_is.given y nb
-    replay_status a b (replay_unobserved job turns asked un) (replay_schedule other bytes is given y) na nb = turns_past job turns bytes b asked given y nb
+    replay_status a b (replay_unobserved job turns asked un) (replay_turns other is y) na nb = turns_past job turns b asked y nb
     replay_status a b (replay_unobserved job turns asked un) (replay_unobserved other more also un_too) na nb = both_two job.plan.flat other.plan.flat (texts request.always.now) a b un un_too
+
+    mistaken_status : (a b : CallError) → IsReplayRefused gives request a → IsReplayRefused gives request b → (¬ SaysNothing a) → (¬ SaysNothing b) → status_of a ≡ status_of b
+    mistaken_status a b (replay_mistaken mistake found e) (replay_mistaken other also d) na nb = ap status_of e ∙ sym (ap status_of d)
+    mistaken_status a b (replay_mistaken mistake found e) (replay_stopped clear y) na nb = absurd (none_some (replay_mistake request) mistake clear found)
+    mistaken_status a b (replay_stopped clear x) (replay_mistaken mistake found e) na nb = absurd (none_some (replay_mistake request) mistake clear found)
+    mistaken_status a b (replay_stopped clear x) (replay_stopped same y) na nb = replay_status a b x y na nb
 
   module _ (request : RunRequest) where
     pub run_past : {X : Type 0} (job : JobView) (stop : CallError) → IsJobFor gives request.program.now request.place.now request.table.now request.main.now job → StopsAtJob gives request.program.now request.place.now request.table.now request.main.now stop → (¬ SaysNothing stop) → X
@@ -405,9 +414,12 @@ module _ (gives : FileFacts) (settled : HasOneText gives) where
   one_status_of (Check request) a b (check_memory e) y na nb = absurd (na (memory_is a OutOfMemory e tt))
   one_status_of (Check request) a b (check_program x) (check_memory e) na nb = absurd (nb (memory_is b OutOfMemory e tt))
   one_status_of (Eval request) a b x y na nb = refused_status request a b x y na nb
+  one_status_of (New request) a b (new_program x) (new_program y) na nb = program_status request.program.now request.main.now a b x y na nb
+  one_status_of (New request) a b (new_memory e) y na nb = absurd (na (memory_is a OutOfMemory e tt))
+  one_status_of (New request) a b (new_program x) (new_memory e) na nb = absurd (nb (memory_is b OutOfMemory e tt))
   one_status_of (Plan request) a b (plan_files x) (plan_files y) na nb = plan_status request.program.now request.place.now request.main.now a b x y na nb
   one_status_of (Plan request) a b (plan_memory e) y na nb = absurd (na (memory_is a OutOfMemory e tt))
   one_status_of (Plan request) a b (plan_files x) (plan_memory e) na nb = absurd (nb (memory_is b OutOfMemory e tt))
-  one_status_of (Replay request) a b x y na nb = replay_status request a b x y na nb
+  one_status_of (Replay request) a b x y na nb = mistaken_status request a b x y na nb
   one_status_of (AsksRun request) a b x y na nb = run_status request a b x y na nb
   one_status_of (Explain request) a b x y na nb = explain_status (code_in request) a b x y na nb

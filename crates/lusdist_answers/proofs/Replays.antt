@@ -1,7 +1,9 @@
 -- What a replay prints is true of the program that was asked for.
-use Rattle.std.proofs.Common.{◌≡◌, ℕ, Bool, List, ap, sym, subst}
-use Rattle.std.specs.Prelude.{Option, None}
+use Rattle.std.proofs.Common.{◌≡◌, ℕ, Bool, List, refl, ap, sym, subst}
+use Rattle.std.specs.Prelude.{Option, Some, None}
 use Rattle.clap.specs.Walk.{texts}
+use Rattle.lusdist_call.specs.declared.mistake.Mistake.{Mistake}
+use Rattle.lusdist_call.specs.Mistakes.{first_mistake, replay_mistake}
 use Rattle.lusdist_call.specs.Violations.{unobserved}
 use Rattle.luworld.specs.Needs.{IsPlan}
 use Rattle.luworld.specs.Jobs.{JobView}
@@ -19,7 +21,11 @@ use Rattle.lusdist_call.specs.Waved.{AreSignalsTrue}
 use Rattle.lusdist_answers.proofs.TrueReports.{output_true, reported_in, reported_true}
 use Rattle.lusdist_shell.specs.Files.{FileFacts}
 
-module _ (gives : FileFacts) (request : ReplayRequest) (job : JobView) (turns text notes : List ℕ) (violated : Bool) (dump : Option (List ℕ)) (asked : IsAskedFor gives request job turns) (observed : unobserved job.plan.flat.variables (texts request.always.now) ≡ None) (printed : IsPrinted request job turns text notes violated dump) where
+pub first_none : (a b : Option Mistake) → first_mistake a b ≡ None → a ≡ None
+first_none None b e = refl
+first_none (Some mistake) b e = absurd cc
+
+module _ (gives : FileFacts) (request : ReplayRequest) (clear : replay_mistake request ≡ None) (job : JobView) (turns text notes : List ℕ) (violated : Bool) (dump : Option (List ℕ)) (asked : IsAskedFor gives request job turns) (observed : unobserved job.plan.flat.variables (texts request.always.now) ≡ None) (printed : IsPrinted request job turns text notes violated dump) where
   -- what is known of an output of a world is a prefix of what the source gives it
   signals_true : (signals : List Signal) → AreOutputSignals printed.world signals → AreSignalsTrue asked.job_for.job_is.flat.tree request.main.now job.inputs signals
   signals_true signals are =
@@ -50,6 +56,7 @@ module _ (gives : FileFacts) (request : ReplayRequest) (job : JobView) (turns te
       let is_plan = subst (λ (j : JobView). IsPlan j.plan) (sym same) asked.job_for.job_is.is_run.plan_is in
       let meant = subst (λ (j : JobView). (σ : SourceStreams) → IsSourceSolution tree request.main.now j.inputs σ → IsMeant j σ) (sym same) asked.job_for.job_is.is_meant in
       record {
+        meant = clear;
         job = job;
         turns = turns;
         asked_for = asked;

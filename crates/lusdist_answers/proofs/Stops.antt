@@ -4,21 +4,17 @@ use Rattle.std.specs.Prelude.{Some, Result, Ok, Err, IfOk, IsUtf8, false}
 use Rattle.luflow.specs.Program.{FlatView, InputsView as Inputs}
 use Rattle.luflow.specs.Tables.{FitsProgram}
 use Rattle.luflow.specs.Variables.{inputs_of}
-use Rattle.luworld.specs.Jobs.{JobView}
 use Rattle.lutab.specs.Table.{IsTextOf, is_too_long}
 use Rattle.lusdist_shell.specs.declared.request.EvalRequest.{EvalRequest}
-use Rattle.lusdist_shell.specs.declared.request.ReplayRequest.{ReplayRequest}
 use Rattle.lusdist_shell.specs.Files.{FileFacts}
 use Rattle.lusdist_call.specs.declared.call_error.CallError.{CallError}
-use Rattle.lusdist_call.specs.Asked.{IsFlatAt, IsJobFor, IsTableAt}
+use Rattle.lusdist_call.specs.Asked.{IsFlatAt, IsTableAt}
 use Rattle.lusdist_call.specs.Evaluated.{IsNoFault}
-use Rattle.lusdist_call.specs.Stopped.{HasNoFlat, IsEvalStopped, IsReplayStopped, StopsAtProgram, StopsAtSchedule, StopsAtTable}
+use Rattle.lusdist_call.specs.Stopped.{HasNoFlat, IsEvalStopped, StopsAtProgram, StopsAtTable}
 use Rattle.lusdist_call.specs.Stopped.HasNoFlat.{unspelled, unruled}
 use Rattle.lusdist_call.specs.Stopped.StopsAtProgram.{program_unread, program_refused}
 use Rattle.lusdist_call.specs.Stopped.StopsAtTable.{no_table, bad_table}
 use Rattle.lusdist_call.specs.Stopped.IsEvalStopped.{eval_unread, eval_table}
-use Rattle.lusdist_call.specs.Stopped.StopsAtSchedule.{no_schedule, bad_schedule}
-use Rattle.lusdist_call.specs.Stopped.IsReplayStopped.{replay_unread, replay_schedule}
 use Rattle.lusdist_answers.proofs.Outcomes.{unread_none, program_none, table_none, reported_none}
 
 flat_none : (bytes main : List ℕ) (stop : CallError) → HasNoFlat bytes main stop → IsNoFault stop
@@ -32,11 +28,6 @@ at_program_none gives path main stop (program_refused program given none) = flat
 pub at_table_none : (gives : FileFacts) (path : List ℕ) (flat : FlatView) (stop : CallError) → StopsAtTable gives path flat stop → IsNoFault stop
 at_table_none gives path flat stop (no_table unread) = unread_none gives path stop unread
 at_table_none gives path flat stop (bad_table table given refused) = table_none flat.types (inputs_of flat.variables) table stop refused
-
--- a replay that stops at its schedule
-pub stops_at_schedule : (gives : FileFacts) (request : ReplayRequest) (job : JobView) (stop : CallError) → IsJobFor gives request.program.now request.place.now request.table.now request.main.now job → StopsAtSchedule gives request.schedule.now stop → IsReplayStopped gives request stop
-stops_at_schedule gives request job stop is (no_schedule unread) = replay_unread job is unread
-stops_at_schedule gives request job stop is (bad_schedule schedule given refused) = replay_schedule job schedule is given refused
 
 -- an evaluation that stops at its table
 pub stops_at_table : (gives : FileFacts) (request : EvalRequest) (flat : FlatView) (stop : CallError) → IsFlatAt gives request.program.now request.main.now flat → StopsAtTable gives request.table.now flat stop → IsEvalStopped gives request stop

@@ -1,4 +1,4 @@
-//! What a check, an evaluation, a plan and a run give, of the files that they ask for.
+//! What a check, an evaluation, the beginning of a design, a plan and a run give, of the files that they ask for.
 
 ghost use Rattle.std.specs.Prelude.{◌≡◌, ◌<◌, length, IfOk, IfErr, None, string_bytes, option_map};
 ghost use Rattle.lutree.specs.Places.{places_view};
@@ -11,7 +11,7 @@ ghost use Rattle.lusdist_call.specs.Answers.{AreCheckNotes, IsReplyTo, plan_note
 ghost use Rattle.luflow.specs.Sound.{IsFit};
 ghost use Rattle.luflow.specs.Variables.{outputs_of};
 ghost use Rattle.lusdist_call.specs.Evaluated.{IsDumpedTo, IsNoFault, IsPosedBy};
-ghost use Rattle.lusdist_call.specs.Stopped.{IsCheckStopped, IsEvalStopped, IsPlanStopped, IsRefusalOf, IsRunStopped};
+ghost use Rattle.lusdist_call.specs.Stopped.{IsCheckStopped, IsEvalStopped, IsNewStopped, IsPlanStopped, IsRefusalOf, IsRunStopped};
 ghost use Rattle.lusdist_call.specs.Mistakes.{mistake_in};
 ghost use Rattle.lusdist_call.specs.Violations.{unobserved};
 ghost use Rattle.clap.specs.Walk.{texts};
@@ -23,12 +23,15 @@ use crate::jobs::{job_for, observe_job};
 use crate::planning::{plan_text, planned};
 use crate::running::run_table;
 use crate::sources::{flat_at, flattened, inputs_at, program_of};
+use crate::starting::start_text;
 use luexplain::of_warnings;
 use luflow::{Flat, Inputs};
 use luplace::Plan;
 use luplace_report::report_idle;
 use lusdist_call::{CallError, Refusal, Reply, mistake_in, observe, read};
-use lusdist_shell::{CheckRequest, EvalRequest, Files, PlanRequest, Progress, RunRequest};
+use lusdist_shell::{
+    CheckRequest, EvalRequest, Files, NewRequest, PlanRequest, Progress, RunRequest,
+};
 use lustat_warn::warnings;
 use lusyn::print_program;
 use lutree::Program;
@@ -125,6 +128,20 @@ pub fn eval_answer<F: Files>(
         }),
         None => evaluated(alloc, request, files),
     }
+}
+
+/// What a design begins with: a placement of all main variables at one site, or a table of inputs, where one is asked for.
+pub fn new_answer<F: Files>(
+    alloc: Global,
+    request: NewRequest<'_>,
+    files: &F,
+) -> Result<Reply, CallError>
+    ensures reply { IfOk result (IsReplyTo (F.gives files.now) (Request.New request.entry)) }
+    ensures stopped { IfErr result (IsNewStopped (F.gives files.now) request.entry) }
+{
+    let flat = flat_at(alloc, files, request.program, request.main)?;
+    let text = start_text(alloc, &flat, request.table)?;
+    Ok(Reply::plain(alloc, text))
 }
 
 /// The sites at which nothing stands, a line each, where a plan asks for warnings.

@@ -14,7 +14,7 @@ ghost use Rattle.lusdist_call.specs.Stopped.{IsRefusal, IsRefusalOf};
 ghost use Rattle.lusdist_call.specs.Targets.{AskOver};
 ghost use Rattle.lusdist_call.specs.Left.{IsEnded, IsCallEnded};
 
-use crate::answering::{check_answer, eval_answer, plan_answer, run_answer};
+use crate::answering::{check_answer, eval_answer, new_answer, plan_answer, run_answer};
 use crate::explaining::explained;
 use crate::refusals::put_refusal;
 use crate::replaying::replay_answer;
@@ -43,6 +43,7 @@ fn answer<R: Threads + Wait + Clock + Sync, F: Files, P: Progress>(
     match request {
         Request::Check(request) => Ok(check_answer(alloc, request, files)?),
         Request::Eval(request) => eval_answer(alloc, request, files),
+        Request::New(request) => Ok(new_answer(alloc, request, files)?),
         Request::Plan(request) => Ok(plan_answer(alloc, request, files)?),
         Request::Replay(request) => Ok(replay_answer(alloc, request, files)?),
         Request::Run(request) => Ok(run_answer(rt, alloc, request, files, progress)?),

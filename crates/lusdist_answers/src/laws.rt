@@ -1,5 +1,6 @@
 //! What holds of the definitions, as contracts of functions that do nothing.
 
+ghost use Rattle.lusdist_call.specs.Begun.{BeginsWithInputs};
 ghost use Rattle.lusdist_call.specs.Exact.{HasOneOutcome, HasOneStatus, HasOneRefusal};
 ghost use Rattle.lusdist_call.specs.Headline.{Headline};
 
@@ -27,6 +28,11 @@ pub fn one_refusal_law<F: Files>(files: &F)
 {
     let _ = files;
 }
+
+/// The table that a design begins with is one of the program's inputs: an evaluation reads it, where it isn't too long.
+pub fn first_inputs_law()
+    ensures { BeginsWithInputs }
+{}
 
 /// The main theorem: where each file has one text, what a replay or a run printed when it was done is true of the program that the
 /// program's text spells, at the inputs that the table's text says. `serve` says by its clause `done` what it printed.

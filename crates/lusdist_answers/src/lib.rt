@@ -2,16 +2,16 @@
 //! why it stops.
 //!
 //! - [`serve`]: a call, from its words to its exit status. What that means stands in `lusdist_call`.
-//! - [`answering`]: what a check, an evaluation, a plan and a run print; [`replaying`]: what a replay prints.
+//! - [`answering`]: what a check, an evaluation, the beginning of a design, a plan and a run print; [`replaying`]: what a replay prints.
 //! - [`sources`]: from the texts of the files to a program, its flat program, a plan, a job, its turns, a table.
 //! - [`jobs`]: the job of a program, a placement and a table.
-//! - [`planning`]: the plan of a program at a placement, and its texts.
+//! - [`planning`]: the plan of a program at a placement, and its texts. [`starting`]: a placement and a table to begin with.
 //! - [`evaluating`]: the main variables of a program at a table, as a table or as a chart; [`running`]: the table of its outputs, made by its sites
 //!   on threads.
 //! - `filing`: the dumps of a run and of a replay. `targets`: where a dump goes, before a file is read.
 //! - [`explaining`]: a page of the manual. `reasons`: why a text is refused; `refusals`: what is printed of that.
 //! - [`CallError`], [`Mistake`] of `lusdist_call`: why a call stops.
-//! - [`laws`]: a call has one outcome, one refusal and one status.
+//! - [`laws`]: a call has one outcome, one refusal and one status; the table that a design begins with is one of the program's inputs.
 #![tactic(auto)]
 
 pub mod answering;
@@ -27,6 +27,7 @@ mod refusals;
 pub mod replaying;
 pub mod running;
 pub mod sources;
+pub mod starting;
 mod targets;
 
 pub use call::serve;

@@ -44,16 +44,20 @@ fn asked_in<'a>(request: Request<'a>) -> Asked<'a>
     let (main, program) = match request {
         Request::Check(asked) => (asked.main, asked.program),
         Request::Eval(asked) => (asked.main, asked.program),
+        Request::New(asked) => (asked.main, asked.program),
         Request::Plan(asked) => (asked.main, asked.program),
         Request::Replay(asked) => (asked.main, asked.program),
         Request::Run(asked) => (asked.main, asked.program),
         Request::Explain(_) => ("", ""),
     };
     let (place, table, schedule) = match request {
-        Request::Check(_) | Request::Explain(_) => ("", "", ""),
+        Request::Check(_) | Request::New(_) | Request::Explain(_) => ("", "", ""),
         Request::Eval(asked) => ("", asked.table, ""),
         Request::Plan(asked) => (asked.place, "", ""),
-        Request::Replay(asked) => (asked.place, asked.table, asked.schedule),
+        Request::Replay(asked) => {
+            let schedule = asked.source.file().unwrap_or("");
+            (asked.place, asked.table, schedule)
+        }
         Request::Run(asked) => (asked.place, asked.table, ""),
     };
     Asked {

@@ -26,6 +26,7 @@ fn asks_why(request: Request<'_>) -> bool
     match request {
         Request::Check(asked) => asked.explain,
         Request::Eval(asked) => asked.explain,
+        Request::New(asked) => asked.explain,
         Request::Plan(asked) => asked.explain,
         Request::Replay(asked) => asked.explain,
         Request::Run(asked) => asked.explain,
@@ -40,6 +41,7 @@ fn asks_short(request: Request<'_>) -> bool
     match request {
         Request::Check(asked) => asked.short,
         Request::Eval(asked) => asked.short,
+        Request::New(asked) => asked.short,
         Request::Plan(asked) => asked.short,
         Request::Replay(asked) => asked.short,
         Request::Run(asked) => asked.short,

@@ -6,9 +6,10 @@ ghost use Rattle.luweave.specs.Headline.{IsFaithful};
 ghost use Rattle.luweave_text.specs.Traced.{IsTraced};
 ghost use Rattle.lusdist_shell.specs.declared.request.Request.{Request};
 ghost use Rattle.lusdist_call.specs.Asked.{IsAskedFor, IsWorldOf};
-ghost use Rattle.lusdist_call.specs.Noted.{tracing_of, AreNotesOf, AreStandsOf, AreReplayNotes, warnings_of};
+ghost use Rattle.lusdist_call.specs.Noted.{tracing_of, AreNotesOf, AreStandsOf, AreReplayNotes, stray_of, warnings_of};
 ghost use Rattle.lusdist_call.specs.Answers.{IsPrinted, IsReplyTo};
-ghost use Rattle.lusdist_call.specs.Stopped.{IsReplayStopped};
+ghost use Rattle.lusdist_call.specs.Stopped.{IsReplayRefused, IsReplayStopped};
+ghost use Rattle.lusdist_call.specs.Mistakes.{replay_mistake, turns_mistake};
 ghost use Rattle.lusdist_call.specs.Violations.{has_lines, unobserved};
 ghost use Rattle.clap.specs.Walk.{texts};
 ghost use Rattle.lusdist_call.specs.declared.call_error.CallError.{CallError};
@@ -16,21 +17,22 @@ ghost use Rattle.lusdist_call.specs.declared.call_error.CallError.TheVariants.{O
 
 use crate::filing::dump_of_world;
 use crate::jobs::{job_for, observe_job};
-use crate::sources::turns_at;
+use crate::sources::turns_from;
 use luplace::{Job, Plan};
-use lusdist_call::{CallError, Reply, world_violations};
-use lusdist_shell::{Files, ReplayRequest, TurnsForm};
+use lusdist_call::{CallError, Reply, replay_mistake, world_violations};
+use lusdist_shell::{Files, ReplayRequest, TurnsForm, TurnsSource};
 use luweave::{World, new_sites, replay};
 use luweave_text::{TraceForm, Tracing, text_of_stands, text_of_stray, text_of_world, trace};
 use std::alloc::{AllocError, Global};
 
-/// The job of the files that a replay asks for, and its turns. They are read and refused in the order of the words; the names that are
-/// observed come last.
+/// The job of the files that a replay asks for, and its turns. The files are read and refused in the order of the words; the names that
+/// are observed come last.
 fn job_and_turns<F: Files>(
     alloc: Global,
     request: ReplayRequest<'_>,
     files: &F,
 ) -> Result<(Job, Vec<u8>), CallError>
+    requires { turns_mistake request.source ≡ None }
     ensures asked { IfOk result (λ found. IsAskedFor (F.gives files.now) request.entry found.0
         found.1.items) }
     ensures observed { IfOk result (λ found. unobserved found.0.plan.flat.variables
@@ -45,7 +47,7 @@ fn job_and_turns<F: Files>(
         request.table,
         request.main,
     )?;
-    let turns = turns_at(alloc, files, request.schedule)?;
+    let turns = turns_from(alloc, files, request.source, job.plan())?;
     observe_job(alloc, &job, request.always)?;
     Ok((job, turns))
 }
@@ -92,6 +94,8 @@ fn tracing_of(request: ReplayRequest<'_>, form: TraceForm) -> Tracing
         form,
         messages: request.messages,
         blocked: request.blocked,
+        from: request.from,
+        to: request.to,
     }
 }
 
@@ -125,6 +129,22 @@ fn noted(
     }
 }
 
+/// What is warned of turns from a source.
+fn stray_of(
+    alloc: Global,
+    source: TurnsSource<'_>,
+    plan: &Plan,
+    turns: &[u8],
+) -> Result<String, AllocError>
+    ensures { IfOk result (λ text. string_bytes text
+        ≡ stray_of source.entry (sites_of plan.now) turns.now) }
+{
+    match source {
+        TurnsSource::File(path) => text_of_stray(alloc, path, plan, turns),
+        _ => Ok(String::new(alloc)),
+    }
+}
+
 /// Adds what is warned of, where the request asks for words.
 fn put_warnings(
     alloc: Global,
@@ -138,7 +158,7 @@ fn put_warnings(
     ensures memory { IfErr result (λ stop. stop ≡ OutOfMemory) }
 {
     if request.explain {
-        let lines = text_of_stray(alloc, request.schedule, job.plan(), turns)?;
+        let lines = stray_of(alloc, request.source, job.plan(), turns)?;
         notes.push_str(lines.as_str())?;
     }
     Ok(())
@@ -211,15 +231,31 @@ fn printed(
     Ok(reply)
 }
 
-/// What a replay gives.
+/// What a replay gives that is asked for without a mistake.
+fn replayed_answer<F: Files>(
+    alloc: Global,
+    request: ReplayRequest<'_>,
+    files: &F,
+) -> Result<Reply, CallError>
+    requires { replay_mistake request ≡ None }
+    ensures reply { IfOk result (IsReplyTo (F.gives files.now) (Request.Replay request.entry)) }
+    ensures stopped { IfErr result (IsReplayStopped (F.gives files.now) request.entry) }
+{
+    let (job, turns) = job_and_turns(alloc, request, files)?;
+    printed(alloc, request, &job, &turns)
+}
+
+/// What a replay gives, or what is wrong with what it is asked for.
 pub fn replay_answer<F: Files>(
     alloc: Global,
     request: ReplayRequest<'_>,
     files: &F,
 ) -> Result<Reply, CallError>
     ensures reply { IfOk result (IsReplyTo (F.gives files.now) (Request.Replay request.entry)) }
-    ensures stopped { IfErr result (IsReplayStopped (F.gives files.now) request.entry) }
+    ensures refused { IfErr result (IsReplayRefused (F.gives files.now) request.entry) }
 {
-    let (job, turns) = job_and_turns(alloc, request, files)?;
-    printed(alloc, request, &job, &turns)
+    match replay_mistake(request) {
+        Some(mistake) => Err(CallError::Mistaken(mistake)),
+        None => replayed_answer(alloc, request, files),
+    }
 }

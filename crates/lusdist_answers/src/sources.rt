@@ -1,9 +1,10 @@
 //! From the texts of the files to a plan, a job and its turns.
 
-ghost use Rattle.std.specs.Prelude.{◌≡◌, IfOk, IfErr, IsUtf8, Ok, false};
+ghost use Rattle.std.specs.Prelude.{◌≡◌, ◌⊎◌, IfOk, IfErr, IsUtf8, None, Ok, false};
 ghost use Rattle.lutree.specs.Places.{places_view};
 ghost use Rattle.lutree.specs.Tree.{program_view};
 ghost use Rattle.lucore.specs.Result.{IsFlatOf};
+ghost use Rattle.lusdist_shell.specs.RandomTurns.{random_turns};
 ghost use Rattle.lusdist_shell.specs.ScheduleText.{schedule_of};
 ghost use Rattle.lusyn.specs.Places.{ArePlacesOf};
 ghost use Rattle.lusyn.specs.Texts.{SpellsText};
@@ -11,17 +12,20 @@ ghost use Rattle.luflow.specs.Sound.{IsFit};
 ghost use Rattle.luflow.specs.Tables.{FitsProgram};
 ghost use Rattle.luflow.specs.Variables.{inputs_of};
 ghost use Rattle.luworld.specs.Jobs.{IsJobView};
+ghost use Rattle.luworld.specs.Needs.{sites_of};
 ghost use Rattle.lutab.specs.Table.{IsTextOf, is_too_long};
-ghost use Rattle.lusdist_call.specs.Asked.{AreTurnsAt, HasFlat, IsFlatAt, IsPlanOfText, IsTableAt};
+ghost use Rattle.lusdist_call.specs.Asked.{AreTurnsAt, AreTurnsFrom, HasFlat, IsFlatAt, IsPlanOfText, IsTableAt};
 ghost use Rattle.lusdist_call.specs.Refused.{IsReportedOf, IsProgramRefused, IsPlaceRefused, IsTableRefused};
-ghost use Rattle.lusdist_call.specs.Stopped.{HasNoFlat, IsScheduleRefused, StopsAtProgram, StopsAtSchedule, StopsAtTable};
+ghost use Rattle.lusdist_call.specs.Mistakes.{turns_mistake};
+ghost use Rattle.lusdist_call.specs.Stopped.{HasNoFlat, IsScheduleRefused, StopsAtProgram, StopsAtSchedule, StopsAtTable, StopsAtTurns};
+ghost use Rattle.lusdist_call.specs.declared.call_error.CallError.TheVariants.{OutOfMemory};
 
 use lucore::flatten;
 use luflow::{Flat, Inputs};
 use luplace::{Job, Plan};
 use luplace_file::{PlaceError, read_place};
 use lusdist_call::{CallError, read};
-use lusdist_shell::{Files, read_schedule, text_of};
+use lusdist_shell::{Files, TurnsSource, random_turns, read_schedule, text_of};
 use lustat::check;
 use lusyn::read_program;
 use lutab::{TabError, read_inputs};
@@ -173,4 +177,35 @@ pub fn turns_at<F: Files>(alloc: Global, files: &F, path: &str) -> Result<Vec<u8
 {
     let bytes = read(alloc, files, path)?;
     turns_of(alloc, &bytes)
+}
+
+/// Random turns of the sites of a plan.
+fn turns_by_seed(alloc: Global, plan: &Plan, seed: u32, count: u32) -> Result<Vec<u8>, CallError>
+    ensures turns { IfOk result (λ turns. turns.items
+        ≡ random_turns seed (sites_of plan.now) count) }
+    ensures memory { IfErr result (λ stop. stop ≡ OutOfMemory) }
+{
+    plan.recall_invariant();
+    let sites = plan.sites().len() as u8;
+    Ok(random_turns(alloc, seed, sites, count)?)
+}
+
+/// The turns that come from a source, for the sites of a plan.
+pub fn turns_from<F: Files>(
+    alloc: Global,
+    files: &F,
+    source: TurnsSource<'_>,
+    plan: &Plan,
+) -> Result<Vec<u8>, CallError>
+    requires { turns_mistake source ≡ None }
+    ensures turns { IfOk result (λ turns. AreTurnsFrom (F.gives files.now) source.entry
+        (sites_of plan.now) turns.items) }
+    ensures stopped { IfErr result (λ stop. (stop ≡ OutOfMemory)
+        ⊎ StopsAtTurns (F.gives files.now) source.entry stop) }
+{
+    match source {
+        TurnsSource::File(path) => turns_at(alloc, files, path),
+        TurnsSource::Random { seed, count } => turns_by_seed(alloc, plan, seed, count),
+        TurnsSource::Unclear => unreachable!(),
+    }
 }

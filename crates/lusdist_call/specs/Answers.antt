@@ -35,14 +35,16 @@ use Rattle.lusdist_shell.specs.declared.request.ReplayRequest.{ReplayRequest}
 use Rattle.lusdist_shell.specs.declared.request.TurnsForm.TheVariants.{Nothing}
 use Rattle.lusdist_shell.specs.declared.request.RunRequest.{RunRequest}
 use Rattle.lusdist_shell.specs.declared.request.Request.{Request}
-use Rattle.lusdist_shell.specs.declared.request.Request.TheVariants.{Check, Eval, Plan, Replay}
+use Rattle.lusdist_shell.specs.declared.request.Request.TheVariants.{Check, Eval, New, Plan, Replay}
 use Rattle.lusdist_shell.specs.declared.request.Request.TheVariants.{Run as AsksRun, Explain}
 use Rattle.lusdist_shell.specs.Request.{IsAskedBy}
 use Rattle.lusdist_call.specs.declared.reply.Reply.{Reply}
 use Rattle.lusdist_call.specs.Asked.{IsPlanFor, IsJobFor, IsAskedFor, IsWorldOf}
+use Rattle.lusdist_call.specs.Begun.{IsBegun}
 use Rattle.lusdist_call.specs.Evaluated.{AreOutputsOf, IsEvaluated}
 use Rattle.lusdist_call.specs.Explained.{code_in, explanation}
 use Rattle.lusdist_call.specs.Files.{dump_for, replay_path, run_path}
+use Rattle.lusdist_call.specs.Mistakes.{replay_mistake}
 use Rattle.lusdist_call.specs.Noted.{AreReplayNotes}
 use Rattle.lusdist_call.specs.RunReportTexts.{run_report_text, IsReportedBy}
 use Rattle.clap.specs.Walk.{texts}
@@ -112,6 +114,7 @@ pub record IsPrinted (request : ReplayRequest) (job : JobView) (turns text notes
 -- program that the file spells, at the table that the file says: for each of its solutions.
 pub record IsReplayed (gives : FileFacts) (request : ReplayRequest) (text notes : List ℕ) (violated : Bool)
     (dump : Option (List ℕ)) : Type 0 where
+  pub meant : replay_mistake request ≡ None
   pub job : JobView
   pub turns : List ℕ
   pub asked_for : IsAskedFor gives request job turns
@@ -150,6 +153,8 @@ IsAnswer gives (Check request) text notes violated dump =
     IsChecked gives request text notes × IsPlain violated dump
 IsAnswer gives (Eval request) text notes violated dump =
     IsEvaluated gives request text notes dump × (violated ≡ has_lines notes)
+IsAnswer gives (New request) text notes violated dump =
+    IsBegun gives request text × (notes ≡ []) × IsPlain violated dump
 IsAnswer gives (Plan request) text notes violated dump =
     IsPlanned gives request text notes × IsPlain violated dump
 IsAnswer gives (Replay request) text notes violated dump = IsReplayed gives request text notes violated dump

@@ -2,7 +2,7 @@
 use Rattle.std.specs.Prelude.{◌≡◌, ℕ, false, List, Some, Ok, IsUtf8, [], ◌++◌, Bool, true}
 use Rattle.lutree.specs.Tree.{ProgramTree}
 use Rattle.luflow.specs.Program.{FlatView, InputsView as Inputs}
-use Rattle.luworld.specs.Needs.{PlanView, IsPlan}
+use Rattle.luworld.specs.Needs.{PlanView, IsPlan, sites_of}
 use Rattle.luworld.specs.Systems.{reached, NoTurnMoves}
 use Rattle.luworld.specs.Jobs.{JobView, IsJobView, system_of}
 use Rattle.lusource.specs.Source.{SourceStreams, IsSourceSolution}
@@ -15,8 +15,11 @@ use Rattle.luplace_file.specs.Placement.{placement_of}
 use Rattle.luplace.specs.Placing.{IsPlanOf}
 use Rattle.luflow.specs.Variables.{inputs_of}
 use Rattle.lutab.specs.Table.{IsTextOf, is_too_long}
+use Rattle.lusdist_shell.specs.RandomTurns.{random_turns}
 use Rattle.lusdist_shell.specs.ScheduleText.{schedule_of}
 use Rattle.lusdist_shell.specs.declared.request.ReplayRequest.{ReplayRequest}
+use Rattle.lusdist_shell.specs.declared.request.TurnsSource.{TurnsSource}
+use Rattle.lusdist_shell.specs.declared.request.TurnsSource.TheVariants.{File, Random, Unclear}
 use Rattle.luworld.specs.WorldViews.{WorldView}
 use Rattle.luflow.specs.Tables.{FitsProgram}
 use Rattle.lusdist_shell.specs.Files.{FileFacts}
@@ -80,11 +83,18 @@ pub record AreTurnsAt (gives : FileFacts) (path turns : List ℕ) : Type 0 where
   pub given : gives path (Some schedule)
   pub turns_are : schedule_of schedule ≡ Ok turns
 
--- a job and its turns are those of texts that the files of a request gave
+-- The turns that come from a source, of so many sites: those of the schedule that its file gave, or so many
+-- random ones from its seed.
+abbrev pub AreTurnsFrom : FileFacts → TurnsSource → ℕ → List ℕ → Type 0
+AreTurnsFrom gives (File path) sites turns = AreTurnsAt gives path.now turns
+AreTurnsFrom gives (Random seed count) sites turns = turns ≡ random_turns seed sites count
+AreTurnsFrom gives Unclear sites turns = ⊥
+
+-- a job is that of texts that the files of a request gave, and its turns come from the request's source
 pub record IsAskedFor (gives : FileFacts) (request : ReplayRequest) (job : JobView)
     (turns : List ℕ) : Type 0 where
   pub job_for : IsJobFor gives request.program.now request.place.now request.table.now request.main.now job
-  pub schedule_is : AreTurnsAt gives request.schedule.now turns
+  pub turns_are : AreTurnsFrom gives request.source (sites_of job.plan) turns
 
 -- The world that a job's turns make of its new sites. Where it is to be finished, more turns follow until
 -- none moves any more, and no others.

@@ -6,7 +6,7 @@ use Rattle.lusdist_shell.specs.declared.request.EvalRequest.{EvalRequest}
 use Rattle.lusdist_shell.specs.declared.request.ReplayRequest.{ReplayRequest}
 use Rattle.lusdist_shell.specs.declared.request.RunRequest.{RunRequest}
 use Rattle.lusdist_shell.specs.declared.request.Request.{Request}
-use Rattle.lusdist_shell.specs.declared.request.Request.TheVariants.{Check, Eval, Plan, Replay, Run, Explain}
+use Rattle.lusdist_shell.specs.declared.request.Request.TheVariants.{Check, Eval, New, Plan, Replay, Run, Explain}
 use Rattle.lusdist_call.specs.declared.call_error.CallError.{CallError}
 use Rattle.lusdist_call.specs.declared.call_error.CallError.TheVariants.{CannotRead, CannotWrite, OutOfMemory}
 
@@ -29,6 +29,7 @@ run_path request = option_map (λ s. s.now) request.vcd
 abbrev pub dump_path : Request → Option (List ℕ)
 dump_path (Check request) = None
 dump_path (Eval request) = wave_path request
+dump_path (New request) = None
 dump_path (Plan request) = None
 dump_path (Replay request) = replay_path request
 dump_path (Run request) = run_path request

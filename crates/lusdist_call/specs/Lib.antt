@@ -2,6 +2,7 @@ pub mod Left
 pub mod Reasons
 pub mod Explained
 pub mod Asked
+pub mod Begun
 pub mod Noted
 pub mod Answers
 pub mod Refused

@@ -2,9 +2,15 @@
 use Rattle.std.specs.Prelude.{ℕ, Bool, List, ◌++◌, codes, Option, Some, None, nat_lt, if◌then◌else◌}
 use Rattle.std.specs.Fmt.{decimal}
 use Rattle.lusdist_shell.specs.declared.request.EvalRequest.{EvalRequest}
+use Rattle.lusdist_shell.specs.declared.request.ReplayRequest.{ReplayRequest}
+use Rattle.lusdist_shell.specs.declared.request.TurnsForm.{TurnsForm}
+use Rattle.lusdist_shell.specs.declared.request.TurnsForm.TheVariants.{Lines, Chart, Nothing}
+use Rattle.lusdist_shell.specs.declared.request.TurnsSource.{TurnsSource}
+use Rattle.lusdist_shell.specs.declared.request.TurnsSource.TheVariants.{Unclear}
 use Rattle.lusdist_call.specs.declared.mistake.Mistake.{Mistake}
 use Rattle.lusdist_call.specs.declared.mistake.Mistake.TheVariants.{UnknownCode, NoChart, Backwards}
 use Rattle.lusdist_call.specs.declared.mistake.Mistake.TheVariants.{Overwritten, TwoForms, Unobserved}
+use Rattle.lusdist_call.specs.declared.mistake.Mistake.TheVariants.{UnclearTurns, NoTurns}
 use Rattle.lusdist_call.specs.declared.role.Role.{Role}
 use Rattle.lusdist_call.specs.declared.role.Role.TheVariants.{Program, Place, Table, Schedule}
 
@@ -26,6 +32,8 @@ line_of (Overwritten path role) =
 line_of TwoForms = codes "error: --text and --chronogram ask for two forms"
 line_of (Unobserved name) =
     codes "error: --always " ++ (name ++ codes " is no bool output of the main node")
+line_of NoTurns = codes "error: --from and --to need --trace or --chart"
+line_of UnclearTurns = codes "error: the turns are those of SCHEDULE, or random by --random and --turns"
 
 -- instants are given for a chart alone
 abbrev pub chartless : Option ℕ → Option ℕ → Option Mistake
@@ -50,3 +58,29 @@ charted aligned from to = if aligned then Some TwoForms else backwards from to
 abbrev pub mistake_in : EvalRequest → Option Mistake
 mistake_in request = if request.chronogram then charted request.aligned request.from request.to
     else chartless request.from request.to
+
+-- what is wrong with where the turns of a replay are to come from
+abbrev pub turns_mistake : TurnsSource → Option Mistake
+turns_mistake Unclear = Some UnclearTurns
+turns_mistake _ = None
+
+-- instants are given for turns that are reported alone, and the first isn't after the last
+abbrev pub turnless : Option ℕ → Option ℕ → Option Mistake
+turnless None None = None
+turnless None (Some to) = Some NoTurns
+turnless (Some from) to = Some NoTurns
+
+abbrev pub cut_mistake : TurnsForm → Option ℕ → Option ℕ → Option Mistake
+cut_mistake Nothing from to = turnless from to
+cut_mistake Lines from to = backwards from to
+cut_mistake Chart from to = backwards from to
+
+-- the first of two, where there is one
+abbrev pub first_mistake : Option Mistake → Option Mistake → Option Mistake
+first_mistake (Some mistake) other = Some mistake
+first_mistake None other = other
+
+-- what is wrong with what a replay is asked for
+abbrev pub replay_mistake : ReplayRequest → Option Mistake
+replay_mistake request =
+    first_mistake (turns_mistake request.source) (cut_mistake request.turns request.from request.to)

@@ -10,12 +10,21 @@ use Rattle.luweave_text.specs.Traced.{IsTraced}
 use Rattle.luweave_text.specs.Stray.{stray_text}
 use Rattle.luweave_text.specs.Waits.{AreStandLines}
 use Rattle.lusdist_shell.specs.declared.request.ReplayRequest.{ReplayRequest}
+use Rattle.lusdist_shell.specs.declared.request.TurnsSource.{TurnsSource}
+use Rattle.lusdist_shell.specs.declared.request.TurnsSource.TheVariants.{File}
 use Rattle.lusdist_shell.specs.declared.request.TurnsForm.{TurnsForm}
 use Rattle.lusdist_shell.specs.declared.request.TurnsForm.TheVariants as forms
 
--- how a request asks turns to be reported that are reported in this form: messages alone, and blocked turns
+-- how a request asks turns to be reported that are reported in this form: messages alone, blocked turns, and
+-- between which instants
 abbrev pub tracing_of : ReplayRequest → TraceForm → Tracing
-tracing_of request form = record { form = form; messages = request.messages; blocked = request.blocked }
+tracing_of request form = record {
+  form = form;
+  messages = request.messages;
+  blocked = request.blocked;
+  from = request.from;
+  to = request.to;
+}
 
 -- What a replay notes of its turns: a line for each that is reported, or a chart of them, where that is asked
 -- for; else nothing.
@@ -26,11 +35,15 @@ AreNotesOf job turns request forms.Chart dones notes =
     IsTraced job turns request.finish (tracing_of request traces.Chart) dones notes
 AreNotesOf job turns request forms.Nothing dones notes = notes ≡ []
 
--- What it warns of where words are asked for: of the first turn that is of no site, behind the path of the
--- schedule.
+-- the line of the first turn of a schedule that is of no site, behind its path; random turns are all of sites
+abbrev pub stray_of : TurnsSource → ℕ → List ℕ → List ℕ
+stray_of (File path) sites turns = stray_text path.now sites turns
+stray_of _ sites turns = []
+
+-- what it warns of where words are asked for: of a turn that is of no site
 abbrev pub warnings_of : ReplayRequest → JobView → List ℕ → List ℕ
 warnings_of request job turns =
-    if request.explain then stray_text request.schedule.now (sites_of job.plan) turns else []
+    if request.explain then stray_of request.source (sites_of job.plan) turns else []
 
 -- What it notes of its sites: where words are asked for, a line for each that is open, with what it waits
 -- for; else nothing.

@@ -1,7 +1,7 @@
 -- What is told of a refusal: its line, and, where the words ask for it, the place in the text that is refused,
 -- what is wrong there, and how to mend it; or all faults.
 use Rattle.std.specs.Prelude.{◌≡◌, ◌⊎◌, ℕ, true, Bool, false, List, [], ◌∷◌, ◌++◌, codes, Option, None, Some}
-use Rattle.std.specs.Prelude.{length, nat_eq, if◌then◌else◌, string_bytes}
+use Rattle.std.specs.Prelude.{length, nat_eq, if◌then◌else◌, string_bytes, unwrap_or}
 use Rattle.std.specs.List.{flat_map}
 use Rattle.std.specs.Fmt.{decimal}
 use Rattle.lutree.specs.declared.program.Program.{Program}
@@ -20,8 +20,9 @@ use Rattle.lusyn.specs.declared.error.SynError.TheVariants as texts
 use Rattle.lusyn.specs.Places.{ArePlacesOf}
 use Rattle.lusyn.specs.Texts.{SpellsText}
 use Rattle.lusdist_shell.specs.declared.request.Request.{Request}
-use Rattle.lusdist_shell.specs.declared.request.Request.TheVariants.{Check, Eval, Plan, Replay, Run, Explain}
+use Rattle.lusdist_shell.specs.declared.request.Request.TheVariants.{Check, Eval, New, Plan, Replay, Run, Explain}
 use Rattle.lusdist_shell.specs.declared.sink.Sink.{Sink}
+use Rattle.lusdist_shell.specs.Request.{schedule_file}
 use Rattle.lusdist_shell.specs.Sinks.{HasPut}
 use Rattle.lusdist_call.specs.Lines.{line_of, named}
 use Rattle.lusdist_call.specs.declared.call_error.CallError.{CallError}
@@ -33,6 +34,7 @@ use Rattle.lusdist_shell.specs.Files.{FileFacts}
 abbrev pub asks_why : Request → Bool
 asks_why (Check request) = request.explain
 asks_why (Eval request) = request.explain
+asks_why (New request) = request.explain
 asks_why (Plan request) = request.explain
 asks_why (Replay request) = request.explain
 asks_why (Run request) = request.explain
@@ -42,6 +44,7 @@ asks_why (Explain request) = false
 abbrev pub asks_short : Request → Bool
 asks_short (Check request) = request.short
 asks_short (Eval request) = request.short
+asks_short (New request) = request.short
 asks_short (Plan request) = request.short
 asks_short (Replay request) = request.short
 asks_short (Run request) = request.short
@@ -64,6 +67,7 @@ asks_all_places _ _ = false
 abbrev pub main_name : Request → List ℕ
 main_name (Check request) = request.main.now
 main_name (Eval request) = request.main.now
+main_name (New request) = request.main.now
 main_name (Plan request) = request.main.now
 main_name (Replay request) = request.main.now
 main_name (Run request) = request.main.now
@@ -73,6 +77,7 @@ main_name (Explain request) = []
 abbrev pub program_path : Request → List ℕ
 program_path (Check request) = request.program.now
 program_path (Eval request) = request.program.now
+program_path (New request) = request.program.now
 program_path (Plan request) = request.program.now
 program_path (Replay request) = request.program.now
 program_path (Run request) = request.program.now
@@ -91,7 +96,7 @@ table_path (Run request) = request.table.now
 table_path _ = []
 
 abbrev pub schedule_path : Request → List ℕ
-schedule_path (Replay request) = request.schedule.now
+schedule_path (Replay request) = unwrap_or (schedule_file request.source) []
 schedule_path _ = []
 
 -- the path of the text that a stop is about

@@ -13,11 +13,14 @@ use Rattle.lusdist_shell.specs.ScheduleText.{schedule_of}
 use Rattle.lusdist_shell.specs.declared.schedule.ScheduleError.TheVariants as schedule
 use Rattle.lusdist_shell.specs.declared.request.CheckRequest.{CheckRequest}
 use Rattle.lusdist_shell.specs.declared.request.EvalRequest.{EvalRequest}
+use Rattle.lusdist_shell.specs.declared.request.NewRequest.{NewRequest}
 use Rattle.lusdist_shell.specs.declared.request.PlanRequest.{PlanRequest}
 use Rattle.lusdist_shell.specs.declared.request.ReplayRequest.{ReplayRequest}
+use Rattle.lusdist_shell.specs.declared.request.TurnsSource.{TurnsSource}
+use Rattle.lusdist_shell.specs.declared.request.TurnsSource.TheVariants.{File}
 use Rattle.lusdist_shell.specs.declared.request.RunRequest.{RunRequest}
 use Rattle.lusdist_shell.specs.declared.request.Request.{Request}
-use Rattle.lusdist_shell.specs.declared.request.Request.TheVariants.{Check, Eval, Plan, Replay}
+use Rattle.lusdist_shell.specs.declared.request.Request.TheVariants.{Check, Eval, New, Plan, Replay}
 use Rattle.lusdist_shell.specs.declared.request.Request.TheVariants.{Run as AsksRun, Explain}
 use Rattle.lusdist_shell.specs.Request.{IsAskedBy}
 use Rattle.lusdist_call.specs.declared.call_error.CallError.{CallError}
@@ -27,7 +30,7 @@ use Rattle.lusdist_call.specs.declared.call_error.CallError.TheVariants.{OutOfMe
 use Rattle.lusdist_call.specs.declared.mistake.Mistake.{Mistake}
 use Rattle.lusdist_call.specs.declared.refusal.Refusal.{Refusal}
 use Rattle.lusdist_call.specs.Files.{IsUnread}
-use Rattle.lusdist_call.specs.Mistakes.{mistake_in}
+use Rattle.lusdist_call.specs.Mistakes.{mistake_in, replay_mistake}
 use Rattle.lusdist_call.specs.Statuses.{status_of}
 use Rattle.luflow.specs.Variables.{variable_name}
 use Rattle.lusource.specs.Source.{SourceStreams, IsSourceSolution}
@@ -64,6 +67,11 @@ pub data StopsAtSchedule (gives : FileFacts) (path : List ℕ) (stop : CallError
   no_schedule : IsUnread gives path stop → StopsAtSchedule gives path stop
   bad_schedule : (schedule : List ℕ) → gives path (Some schedule) → IsScheduleRefused schedule stop
       → StopsAtSchedule gives path stop
+
+-- it stops at the turns from this source: at their schedule
+abbrev pub StopsAtTurns : FileFacts → TurnsSource → CallError → Type 0
+StopsAtTurns gives (File path) stop = StopsAtSchedule gives path.now stop
+StopsAtTurns gives _ stop = ⊥
 
 -- A call stops at the program of this path: it can't be read, or has no flat program from this main node.
 pub data StopsAtProgram (gives : FileFacts) (path main : List ℕ) (stop : CallError) : Type 0 where
@@ -117,6 +125,12 @@ pub data IsEvalRefused (gives : FileFacts) (request : EvalRequest) (stop : CallE
   eval_stopped : mistake_in request ≡ None → IsEvalStopped gives request stop
       → IsEvalRefused gives request stop
 
+-- the beginning of a design that a request asks for stops so
+pub data IsNewStopped (gives : FileFacts) (request : NewRequest) (stop : CallError) : Type 0 where
+  new_program : StopsAtProgram gives request.program.now request.main.now stop
+      → IsNewStopped gives request stop
+  new_memory : stop ≡ OutOfMemory → IsNewStopped gives request stop
+
 -- a plan of what a request asks for stops so
 pub data IsPlanStopped (gives : FileFacts) (request : PlanRequest) (stop : CallError) : Type 0 where
   plan_files : StopsAtPlan gives request.program.now request.place.now request.main.now stop
@@ -135,21 +149,25 @@ pub data StopsAtJob (gives : FileFacts) (path place_path table_path main : List 
       → IsTableRefused plan.flat.types (inputs_of plan.flat.variables) table stop
       → StopsAtJob gives path place_path table_path main stop
 
--- A replay of what a request asks for stops so: at its job; where there is one, at its schedule; or, where
--- that is one, at a name that is observed.
+-- A replay of what a request asks for stops so: at its job; where there is one, at its turns; or, where there
+-- are such, at a name that is observed.
 pub data IsReplayStopped (gives : FileFacts) (request : ReplayRequest) (stop : CallError) : Type 0 where
   replay_job : StopsAtJob gives request.program.now request.place.now request.table.now request.main.now stop
       → IsReplayStopped gives request stop
-  replay_unread : (job : JobView)
+  replay_turns : (job : JobView)
       → IsJobFor gives request.program.now request.place.now request.table.now request.main.now job
-      → IsUnread gives request.schedule.now stop → IsReplayStopped gives request stop
-  replay_schedule : (job : JobView) (turns : List ℕ)
-      → IsJobFor gives request.program.now request.place.now request.table.now request.main.now job
-      → gives request.schedule.now (Some turns) → IsScheduleRefused turns stop
-      → IsReplayStopped gives request stop
+      → StopsAtTurns gives request.source stop → IsReplayStopped gives request stop
   replay_unobserved : (job : JobView) (turns : List ℕ) → IsAskedFor gives request job turns
       → IsUnobserved job.plan.flat (texts request.always.now) stop → IsReplayStopped gives request stop
   replay_memory : stop ≡ OutOfMemory → IsReplayStopped gives request stop
+
+-- What a request asks of a replay stops so: where something is wrong with the words, at that; else at its
+-- files.
+pub data IsReplayRefused (gives : FileFacts) (request : ReplayRequest) (stop : CallError) : Type 0 where
+  replay_mistaken : (mistake : Mistake) → replay_mistake request ≡ Some mistake
+      → stop ≡ Mistaken mistake → IsReplayRefused gives request stop
+  replay_stopped : replay_mistake request ≡ None → IsReplayStopped gives request stop
+      → IsReplayRefused gives request stop
 
 -- A fault of the run that a request asks for, reported by the name of the main variable in whose equation it
 -- stands: it is the one at which a site of the run stopped, and a fault of the source.
@@ -187,8 +205,9 @@ pub data IsRunStopped (gives : FileFacts) (request : RunRequest) (stop : CallErr
 abbrev pub IsRequestStopped : FileFacts → Request → CallError → Type 0
 IsRequestStopped gives (Check request) stop = IsCheckStopped gives request stop
 IsRequestStopped gives (Eval request) stop = IsEvalRefused gives request stop
+IsRequestStopped gives (New request) stop = IsNewStopped gives request stop
 IsRequestStopped gives (Plan request) stop = IsPlanStopped gives request stop
-IsRequestStopped gives (Replay request) stop = IsReplayStopped gives request stop
+IsRequestStopped gives (Replay request) stop = IsReplayRefused gives request stop
 IsRequestStopped gives (AsksRun request) stop = IsRunStopped gives request stop
 IsRequestStopped gives (Explain request) stop = IsExplainStopped (code_in request) stop
 

@@ -2,8 +2,8 @@
 use Rattle.std.specs.Prelude.{◌≡◌, ◌≢◌, ℕ, List, Option, Some, None}
 use Rattle.lusdist_shell.specs.Dumps.{DumpFacts}
 use Rattle.lusdist_shell.specs.declared.request.Request.{Request}
-use Rattle.lusdist_shell.specs.declared.request.Request.TheVariants.{Check, Eval, Plan, Replay, Run}
-use Rattle.lusdist_shell.specs.Request.{IsAskedBy}
+use Rattle.lusdist_shell.specs.declared.request.Request.TheVariants.{Check, Eval, New, Plan, Replay, Run}
+use Rattle.lusdist_shell.specs.Request.{IsAskedBy, schedule_file}
 use Rattle.lusdist_call.specs.declared.role.Role.{Role}
 use Rattle.lusdist_call.specs.declared.role.Role.TheVariants.{Program, Place, Table, Schedule}
 use Rattle.lusdist_call.specs.declared.mistake.Mistake.TheVariants.{Overwritten}
@@ -16,12 +16,13 @@ abbrev pub file_of : Request → Role → Option (List ℕ)
 file_of (Check request) Program = Some request.program.now
 file_of (Eval request) Program = Some request.program.now
 file_of (Eval request) Table = Some request.table.now
+file_of (New request) Program = Some request.program.now
 file_of (Plan request) Program = Some request.program.now
 file_of (Plan request) Place = Some request.place.now
 file_of (Replay request) Program = Some request.program.now
 file_of (Replay request) Place = Some request.place.now
 file_of (Replay request) Table = Some request.table.now
-file_of (Replay request) Schedule = Some request.schedule.now
+file_of (Replay request) Schedule = schedule_file request.source
 file_of (Run request) Program = Some request.program.now
 file_of (Run request) Place = Some request.place.now
 file_of (Run request) Table = Some request.table.now

@@ -38,7 +38,7 @@ mod violations;
 
 pub use call_error::CallError;
 pub use files::{file_dump, read};
-pub use mistake::{Mistake, mistake_in};
+pub use mistake::{Mistake, mistake_in, replay_mistake};
 pub use refusal::Refusal;
 pub use reply::{Reply, put_reply, status_beside};
 pub use role::Role;

@@ -1,11 +1,11 @@
 //! What is wrong with words that the command line takes.
 
 ghost use Rattle.std.specs.Prelude.{◌≡◌};
-ghost use Rattle.lusdist_call.specs.Mistakes.{chartless, unordered, backwards, charted, mistake_in};
+ghost use Rattle.lusdist_call.specs.Mistakes.{chartless, unordered, backwards, charted, cut_mistake, mistake_in, replay_mistake, turnless, turns_mistake};
 
 use crate::role::Role;
 use lubase::Name;
-use lusdist_shell::EvalRequest;
+use lusdist_shell::{EvalRequest, ReplayRequest, TurnsForm, TurnsSource};
 use std::fmt;
 use thiserror::Error;
 
@@ -16,7 +16,7 @@ pub enum Mistake {
     UnknownCode { code: Name },
     /// Instants are given for a chart that isn't asked for.
     NoChart,
-    /// The first instant of a chart is after its last. Both are counted from 0.
+    /// The first instant of a chart, or of turns, is after the last. Both are counted from 0.
     Backwards { from: u32, to: u32 },
     /// A dump would be written over a file of the call: its path, and what that file is to the call.
     Overwritten { path: Name, role: Role },
@@ -24,6 +24,10 @@ pub enum Mistake {
     TwoForms,
     /// What is to be observed is no bool output of the main node.
     Unobserved { name: Name },
+    /// It isn't said where the turns of a replay come from: from a schedule, or from a seed and a number of turns.
+    UnclearTurns,
+    /// Instants are given for turns of a replay of which none are reported.
+    NoTurns,
 }
 
 impl fmt::Display for Mistake {
@@ -51,6 +55,10 @@ impl fmt::Display for Mistake {
                 f,
                 "error: --always {} is no bool output of the main node",
                 name.as_str()
+            ),
+            Mistake::NoTurns => f.write_str("error: --from and --to need --trace or --chart"),
+            Mistake::UnclearTurns => f.write_str(
+                "error: the turns are those of SCHEDULE, or random by --random and --turns",
             ),
         }
     }
@@ -112,5 +120,49 @@ pub fn mistake_in(request: EvalRequest<'_>) -> Option<Mistake>
         charted(request.aligned, request.from, request.to)
     } else {
         chartless(request.from, request.to)
+    }
+}
+
+/// What is wrong with where the turns of a replay are to come from.
+fn turns_mistake(source: TurnsSource<'_>) -> Option<Mistake>
+    ensures { result ≡ turns_mistake source.entry }
+{
+    match source {
+        TurnsSource::Unclear => Some(Mistake::UnclearTurns),
+        _ => None,
+    }
+}
+
+/// What is wrong with instants that are given where no turns are reported.
+fn turnless(from: Option<u32>, to: Option<u32>) -> Option<Mistake>
+    ensures { result ≡ turnless from to }
+{
+    match from {
+        Some(_) => Some(Mistake::NoTurns),
+        None => match to {
+            Some(_) => Some(Mistake::NoTurns),
+            None => None,
+        },
+    }
+}
+
+/// What is wrong with the instants that cut turns in this form.
+fn cut_mistake(turns: TurnsForm, from: Option<u32>, to: Option<u32>) -> Option<Mistake>
+    ensures { result ≡ cut_mistake turns from to }
+{
+    match turns {
+        TurnsForm::Nothing => turnless(from, to),
+        TurnsForm::Lines => backwards(from, to),
+        TurnsForm::Chart => backwards(from, to),
+    }
+}
+
+/// What is wrong with what a replay is asked for.
+pub fn replay_mistake(request: ReplayRequest<'_>) -> Option<Mistake>
+    ensures { result ≡ replay_mistake request.entry }
+{
+    match turns_mistake(request.source) {
+        Some(mistake) => Some(mistake),
+        None => cut_mistake(request.turns, request.from, request.to),
     }
 }

@@ -62,17 +62,18 @@ no_help : (words : List Text) → fault_of lusdist words ≡ [] → IsNoHelp (st
 no_help words none =
     walk_no_help (built lusdist).top (names_of (built lusdist)) refl (walk_from nothing_held) (argument_words lusdist words) (λ p e. absurd cc) (left_nil _ _ none)
 
--- what is found among seven is one of the first six, or the seventh passes
-one_of_seven : (a b d e g f h : Bool) (x y z u v w m found : Shape) → cond a (Some x) (cond b (Some y) (cond d (Some z) (cond e (Some u) (cond g (Some v) (cond f (Some w) (cond h (Some m) None)))))) ≡ Some found
-    → ((found ≡ x) ⊎ ((found ≡ y) ⊎ ((found ≡ z) ⊎ ((found ≡ u) ⊎ ((found ≡ v) ⊎ (found ≡ w)))))) ⊎ (h ≡ true)
-one_of_seven true b d e g f h x y z u v w m found is = inl (inl (let s : found ≡ x = cc in s))
-one_of_seven false true d e g f h x y z u v w m found is = inl (inr (inl (let s : found ≡ y = cc in s)))
-one_of_seven false false true e g f h x y z u v w m found is = inl (inr (inr (inl (let s : found ≡ z = cc in s))))
-one_of_seven false false false true g f h x y z u v w m found is = inl (inr (inr (inr (inl (let s : found ≡ u = cc in s)))))
-one_of_seven false false false false true f h x y z u v w m found is = inl (inr (inr (inr (inr (inl (let s : found ≡ v = cc in s))))))
-one_of_seven false false false false false true h x y z u v w m found is = inl (inr (inr (inr (inr (inr (let s : found ≡ w = cc in s))))))
-one_of_seven false false false false false false true x y z u v w m found is = inr refl
-one_of_seven false false false false false false false x y z u v w m found is = absurd cc
+-- what is found among eight is one of the first seven, or the eighth passes
+one_of_eight : (a b d e g f h i : Bool) (x y z u v w m n found : Shape) → cond a (Some x) (cond b (Some y) (cond d (Some z) (cond e (Some u) (cond g (Some v) (cond f (Some w) (cond h (Some m) (cond i (Some n) None))))))) ≡ Some found
+    → ((found ≡ x) ⊎ ((found ≡ y) ⊎ ((found ≡ z) ⊎ ((found ≡ u) ⊎ ((found ≡ v) ⊎ ((found ≡ w) ⊎ (found ≡ m))))))) ⊎ (i ≡ true)
+one_of_eight true b d e g f h i x y z u v w m n found is = inl (inl (let s : found ≡ x = cc in s))
+one_of_eight false true d e g f h i x y z u v w m n found is = inl (inr (inl (let s : found ≡ y = cc in s)))
+one_of_eight false false true e g f h i x y z u v w m n found is = inl (inr (inr (inl (let s : found ≡ z = cc in s))))
+one_of_eight false false false true g f h i x y z u v w m n found is = inl (inr (inr (inr (inl (let s : found ≡ u = cc in s)))))
+one_of_eight false false false false true f h i x y z u v w m n found is = inl (inr (inr (inr (inr (inl (let s : found ≡ v = cc in s))))))
+one_of_eight false false false false false true h i x y z u v w m n found is = inl (inr (inr (inr (inr (inr (inl (let s : found ≡ w = cc in s)))))))
+one_of_eight false false false false false false true i x y z u v w m n found is = inl (inr (inr (inr (inr (inr (inr (let s : found ≡ m = cc in s)))))))
+one_of_eight false false false false false false false true x y z u v w m n found is = inr refl
+one_of_eight false false false false false false false false x y z u v w m n found is = absurd cc
 
 abbrev shape_at : ℕ → Shape
 shape_at k = get_or (built lusdist).subs k help_shape
@@ -85,16 +86,17 @@ is_command_at (Some p) other some =
     name_of : Shape → Text
     name_of s = s.name
 
-    one_of : {found : Shape} → (found ≡ shape_at 0) ⊎ ((found ≡ shape_at 1) ⊎ ((found ≡ shape_at 2) ⊎ ((found ≡ shape_at 3) ⊎ ((found ≡ shape_at 4) ⊎ (found ≡ shape_at 5)))))
-        → (found.name ≡ codes "check") ⊎ ((found.name ≡ codes "eval") ⊎ ((found.name ≡ codes "plan") ⊎ ((found.name ≡ codes "replay") ⊎ ((found.name ≡ codes "run") ⊎ (found.name ≡ codes "explain")))))
+    one_of : {found : Shape} → (found ≡ shape_at 0) ⊎ ((found ≡ shape_at 1) ⊎ ((found ≡ shape_at 2) ⊎ ((found ≡ shape_at 3) ⊎ ((found ≡ shape_at 4) ⊎ ((found ≡ shape_at 5) ⊎ (found ≡ shape_at 6))))))
+        → (found.name ≡ codes "check") ⊎ ((found.name ≡ codes "eval") ⊎ ((found.name ≡ codes "new") ⊎ ((found.name ≡ codes "plan") ⊎ ((found.name ≡ codes "replay") ⊎ ((found.name ≡ codes "run") ⊎ (found.name ≡ codes "explain"))))))
     one_of (inl first) = inl (ap name_of first)
     one_of (inr (inl second)) = inr (inl (ap name_of second))
     one_of (inr (inr (inl third))) = inr (inr (inl (ap name_of third)))
     one_of (inr (inr (inr (inl fourth)))) = inr (inr (inr (inl (ap name_of fourth))))
     one_of (inr (inr (inr (inr (inl fifth))))) = inr (inr (inr (inr (inl (ap name_of fifth)))))
-    one_of (inr (inr (inr (inr (inr sixth))))) = inr (inr (inr (inr (inr (ap name_of sixth)))))
+    one_of (inr (inr (inr (inr (inr (inl sixth)))))) = inr (inr (inr (inr (inr (inl (ap name_of sixth))))))
+    one_of (inr (inr (inr (inr (inr (inr seventh)))))) = inr (inr (inr (inr (inr (inr (ap name_of seventh))))))
 
-    is_help : answers_to p.0 (label_of (shape_at 6)) ≡ true → ⊥
+    is_help : answers_to p.0 (label_of (shape_at 7)) ≡ true → ⊥
     is_help e = other p refl (sym ((bytes_eq-Decides (codes "help") p.0).0 (sym (or-false _) ∙ e)))
 
     go : (o : Option Shape) → find (λ s. answers_to p.0 (label_of s)) (built lusdist).subs ≡ o → is_some (option_map (λ s. rows_at s p.1) o) ≡ true
@@ -103,7 +105,7 @@ is_command_at (Some p) other some =
     go (Some found) e is = record {
       found = rows_at found p.1;
       is = refl;
-      named = elim (one_of_seven (answers_to p.0 (label_of (shape_at 0))) (answers_to p.0 (label_of (shape_at 1))) (answers_to p.0 (label_of (shape_at 2))) (answers_to p.0 (label_of (shape_at 3))) (answers_to p.0 (label_of (shape_at 4))) (answers_to p.0 (label_of (shape_at 5))) (answers_to p.0 (label_of (shape_at 6))) (shape_at 0) (shape_at 1) (shape_at 2) (shape_at 3) (shape_at 4) (shape_at 5) (shape_at 6) found e) [
+      named = elim (one_of_eight (answers_to p.0 (label_of (shape_at 0))) (answers_to p.0 (label_of (shape_at 1))) (answers_to p.0 (label_of (shape_at 2))) (answers_to p.0 (label_of (shape_at 3))) (answers_to p.0 (label_of (shape_at 4))) (answers_to p.0 (label_of (shape_at 5))) (answers_to p.0 (label_of (shape_at 6))) (answers_to p.0 (label_of (shape_at 7))) (shape_at 0) (shape_at 1) (shape_at 2) (shape_at 3) (shape_at 4) (shape_at 5) (shape_at 6) (shape_at 7) found e) [
         | inl named ↦ one_of named
         | inr help ↦ absurd (is_help help)
       ];

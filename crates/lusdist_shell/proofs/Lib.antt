@@ -1,3 +1,4 @@
 mod ScheduleSteps
+mod RandomSteps
 mod NoHelp
 mod CommandLemmas

@@ -4,22 +4,27 @@ use Rattle.std.specs.List.{fold}
 use Rattle.clap.specs.Walk.{Rule}
 use Rattle.clap.specs.Simple.{App, new_app, with_rule, with_subcommand}
 use Rattle.lusdist_shell.specs.CommandLine.{path_rule, main_rule, flag_rule, instant_rule, vcd_rule}
-use Rattle.lusdist_shell.specs.CommandLine.{workers_rule, code_rule, always_rule}
+use Rattle.lusdist_shell.specs.CommandLine.{workers_rule, code_rule, always_rule, table_rule, optional_rule}
+use Rattle.lusdist_shell.specs.CommandLine.{number_rule}
 use Rattle.lusdist_shell.specs.declared.argument.Argument.{Argument}
 use Rattle.lusdist_shell.specs.declared.argument.Argument.TheVariants.{Main, Path, Flag, Instant, Vcd}
-use Rattle.lusdist_shell.specs.declared.argument.Argument.TheVariants.{Workers, Code, Always}
+use Rattle.lusdist_shell.specs.declared.argument.Argument.TheVariants.{Workers, Code, Always, Instants}
+use Rattle.lusdist_shell.specs.declared.argument.Argument.TheVariants.{Optional, Number}
 use Rattle.lusdist_shell.specs.declared.command.Task.{Task}
 
 -- an argument, as the parser takes it
 abbrev pub rule_in : Argument → Rule
 rule_in Main = main_rule
 rule_in (Path name help) = path_rule name.now
+rule_in (Optional name help) = optional_rule name.now
 rule_in (Flag name help) = flag_rule name.now
 rule_in (Instant name help) = instant_rule name.now
+rule_in (Number name value greatest help) = number_rule name.now greatest
 rule_in (Vcd help) = vcd_rule
 rule_in Workers = workers_rule
 rule_in Code = code_rule
 rule_in Always = always_rule
+rule_in Instants = table_rule
 
 -- a command with one argument more
 abbrev pub with_argument : App → Argument → App

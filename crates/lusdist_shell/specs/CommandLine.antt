@@ -1,6 +1,6 @@
 -- The command line of the program, in the words of the crate that parses it.
 use Rattle.std.specs.Prelude.{ℕ, [], ◌∷◌, true, codes, Some}
-use Rattle.lulimits.specs.Limits.{most_workers}
+use Rattle.lulimits.specs.Limits.{longest_schedule, most_instants, most_workers}
 use Rattle.clap.specs.Walk.{Rule, Text}
 use Rattle.clap.specs.Simple.{App, new_app, new_rule, on_top, with_rule, with_subcommand}
 use Rattle.clap.specs.declared.builder.action.ArgAction.TheVariants.{Set, SetTrue, Append}
@@ -9,6 +9,10 @@ use Rattle.clap.specs.declared.builder.value_parser.ValueParser.TheVariants.{Uns
 -- a path that must be given
 abbrev pub path_rule : Text → Rule
 path_rule name = record (new_rule name) { required = true; action = Some Set }
+
+-- a path that may be left out
+abbrev pub optional_rule : Text → Rule
+optional_rule name = record (new_rule name) { action = Some Set }
 
 -- `--main NAME`, which is `main` where it isn't given
 abbrev pub main_rule : Rule
@@ -69,6 +73,18 @@ eval =
     (path_rule (codes "PROGRAM")))
     (path_rule (codes "TABLE"))
 
+-- `--table N`, as many instants as a table may have
+abbrev pub table_rule : Rule
+table_rule = record (new_rule (codes "table")) {
+  long = Some (codes "table");
+  value_names = 1;
+  parser = Some (Unsigned 0 most_instants);
+}
+
+-- `new PROGRAM [--main NAME] [--explain] [--short] [--table N]`
+abbrev pub start : App
+start = with_rule (with_rule (judging (codes "new")) table_rule) (path_rule (codes "PROGRAM"))
+
 -- `plan PROGRAM PLACE [--main NAME] [--explain] [--short] [--warn] [--text] [--dot]`
 abbrev pub plan : App
 plan =
@@ -76,16 +92,30 @@ plan =
     (flag_rule (codes "text"))) (flag_rule (codes "dot"))) (path_rule (codes "PROGRAM")))
     (path_rule (codes "PLACE"))
 
--- `replay PROGRAM PLACE TABLE SCHEDULE [--main NAME] [--explain] [--short] [--finish] [--trace] [--chart]
--- [--messages] [--blocked] [--vcd FILE] [--always NAME]..`
+-- the greatest seed of random turns
+abbrev pub greatest_seed : ℕ
+greatest_seed = 4294967295
+
+-- a number, from 0 to a greatest one
+abbrev pub number_rule : Text → ℕ → Rule
+number_rule name greatest = record (new_rule name) {
+  long = Some name;
+  value_names = 1;
+  parser = Some (Unsigned 0 greatest);
+}
+
+-- `replay PROGRAM PLACE TABLE [SCHEDULE] [--main NAME] [--explain] [--short] [--random SEED] [--turns N]
+-- [--finish] [--trace] [--chart] [--messages] [--blocked] [--from T] [--to T] [--vcd FILE] [--always NAME]..`
 abbrev pub replay : App
 replay =
-    with_rule (with_rule (with_rule (with_rule (with_rule
+    with_rule (with_rule (with_rule (with_rule (with_rule (with_rule (with_rule (with_rule (with_rule
     (with_rule (with_rule (with_rule (with_rule (with_rule (with_rule (judging (codes "replay"))
+    (number_rule (codes "random") greatest_seed)) (number_rule (codes "turns") longest_schedule))
     (flag_rule (codes "finish"))) (flag_rule (codes "trace"))) (flag_rule (codes "chart")))
-    (flag_rule (codes "messages"))) (flag_rule (codes "blocked"))) vcd_rule) always_rule)
+    (flag_rule (codes "messages"))) (flag_rule (codes "blocked"))) (instant_rule (codes "from")))
+    (instant_rule (codes "to"))) vcd_rule) always_rule)
     (path_rule (codes "PROGRAM"))) (path_rule (codes "PLACE"))) (path_rule (codes "TABLE")))
-    (path_rule (codes "SCHEDULE"))
+    (optional_rule (codes "SCHEDULE"))
 
 -- the fewest workers that may serve the sites
 abbrev pub fewest_workers : ℕ
@@ -126,5 +156,6 @@ abbrev pub lusdist : App
 lusdist =
     with_subcommand
     (with_subcommand
-    (with_subcommand (with_subcommand (with_subcommand (with_subcommand bare check.top) eval.top)
+    (with_subcommand
+    (with_subcommand (with_subcommand (with_subcommand (with_subcommand bare check.top) eval.top) start.top)
     plan.top) replay.top) run.top) explain.top

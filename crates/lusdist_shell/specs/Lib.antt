@@ -1,5 +1,6 @@
 pub mod Schedule
 pub mod ScheduleText
+pub mod RandomTurns
 pub mod CommandLine
 pub mod Arguments
 pub mod Request

@@ -14,6 +14,12 @@ use std::alloc::{AllocError, Global};
 /// The version that `--version` prints.
 const VERSION: &str = "0.1.0";
 
+/// The greatest seed of random turns.
+const GREATEST_SEED: u64 = 4_294_967_295;
+
+/// The most random turns: as many as the longest schedule has.
+const MOST_TURNS: u64 = 67_108_864;
+
 /// What the exit statuses mean, which stands at the end of each help.
 const STATUSES: &str = "Exit status:
   0  the answer is printed; where a site of a replay faulted, the answer says so
@@ -48,10 +54,26 @@ const PLACE: Argument<'static> = Argument::Path {
     help: "The placement, in TOML: the sites, how much a link holds, and each variable's sites",
 };
 
-/// The path of the schedule.
-const SCHEDULE: Argument<'static> = Argument::Path {
+/// The path of the schedule, which is left out where the turns are random.
+const SCHEDULE: Argument<'static> = Argument::Optional {
     name: "SCHEDULE",
-    help: "The turns in their order: 0 to 9 and a to f stand for the sites 0 to 15",
+    help: "The turns in their order: 0 to 9 and a to f stand for the sites 0 to 15; left out with --random",
+};
+
+/// The seed of random turns.
+const RANDOM: Argument<'static> = Argument::Number {
+    name: "random",
+    value: "SEED",
+    greatest: GREATEST_SEED,
+    help: "Makes the turns at random, in place of SCHEDULE, the same for the same seed (0 to 4294967295); with --turns",
+};
+
+/// How many random turns there are.
+const TURNS: Argument<'static> = Argument::Number {
+    name: "turns",
+    value: "N",
+    greatest: MOST_TURNS,
+    help: "How many random turns there are (0 to 67108864); with --random",
 };
 
 /// Whether a refusal is explained.
@@ -166,6 +188,18 @@ const BLOCKED: Argument<'static> = Argument::Flag {
     help: "Beside --trace or --chart: also the turns that found no room or no message",
 };
 
+/// The first instant of the slowest site at which turns are told.
+const FROM_TURNS: Argument<'static> = Argument::Instant {
+    name: "from",
+    help: "Beside --trace or --chart: only turns from where the slowest site stands at instant T, counted from 0",
+};
+
+/// The last one.
+const TO_TURNS: Argument<'static> = Argument::Instant {
+    name: "to",
+    help: "Beside --trace or --chart: only turns up to where the slowest site stands at instant T",
+};
+
 /// Whether a run says how far it has come.
 const PROGRESS: Argument<'static> = Argument::Flag {
     name: "progress",
@@ -179,7 +213,7 @@ const ITEMS: Argument<'static> = Argument::Flag {
 };
 
 /// All commands, in the order in which help lists them.
-const TASKS: [Task<'static>; 6] = [
+const TASKS: [Task<'static>; 7] = [
     Task {
         name: "check",
         about: "Judges a program by all rules and prints its canonical text",
@@ -204,6 +238,11 @@ const TASKS: [Task<'static>; 6] = [
         ],
     },
     Task {
+        name: "new",
+        about: "Prints what a design begins with: a placement of all variables at one site, or a table of inputs",
+        arguments: &[Argument::Main, EXPLAIN, SHORT, Argument::Instants, PROGRAM],
+    },
+    Task {
         name: "plan",
         about: "Plans a program at several sites and prints where each variable stands, and all links",
         arguments: &[
@@ -224,11 +263,15 @@ const TASKS: [Task<'static>; 6] = [
             Argument::Main,
             EXPLAIN_SITES,
             SHORT,
+            RANDOM,
+            TURNS,
             FINISH,
             TRACE,
             CHART,
             MESSAGES,
             BLOCKED,
+            FROM_TURNS,
+            TO_TURNS,
             SITE_VCD,
             Argument::Always,
             PROGRAM,

@@ -5,7 +5,7 @@
 //!   says instead.
 //! - [`Files`] is where texts come from: [`RealFiles`], or files in memory. [`Dumps`] is where a dump goes.
 //! - [`text_of`] sees bytes as text, where they are text.
-//! - [`read_schedule`] reads whose turn it is, turn by turn.
+//! - [`read_schedule`] reads whose turn it is, turn by turn; [`random_turns`] makes random turns.
 //! - [`Progress`] is handed how far a run has come: [`Meter`] reports it to a person, [`Silent`] to nobody.
 //! - A [`Sink`] is a stream that remembers whether a write has failed; [`put_out`] writes to the output, and
 //!   [`put_unread`] reports why there are no words.
@@ -35,6 +35,7 @@ mod page;
 mod placements;
 mod progress;
 mod put;
+mod random;
 mod request;
 mod runs;
 mod schedule;
@@ -52,9 +53,10 @@ pub use dumps::{Dump, Dumps, RealDumps, WriteError};
 pub use files::{Files, ReadError, ReadFault, RealFiles};
 pub use progress::{Meter, Progress, Silent};
 pub use put::{put_mistake, put_notes, put_out, put_unread};
+pub use random::random_turns;
 pub use request::{
-    CheckRequest, EvalRequest, ExplainRequest, PlanForm, PlanRequest, ReplayRequest, Request,
-    RunRequest, TurnsForm, parse, request_in,
+    CheckRequest, EvalRequest, ExplainRequest, NewRequest, PlanForm, PlanRequest, ReplayRequest,
+    Request, RunRequest, TurnsForm, TurnsSource, parse, request_in,
 };
 pub use schedule::{ScheduleError, read_schedule};
 pub use sink::Sink;

@@ -4,7 +4,7 @@ ghost use Rattle.std.specs.Prelude.{◌≡◌, IfOk, IfErr, map, option_map, tru
 ghost use Rattle.clap.specs.Words.{kind_of, takes, found_of, first_of, rows_of, subcommand_of, subcommand_rows_of, FailsBy, fault_of};
 ghost use Rattle.clap.specs.declared.error.kind.ErrorKind.TheVariants.{OutOfMemory};
 ghost use Rattle.lusdist_shell.specs.CommandLine.{lusdist};
-ghost use Rattle.lusdist_shell.specs.Request.{text_in, is_given, form_in, turns_in, IsCommand, IsCheckIn, IsEvalIn, IsPlanIn, IsReplayIn, IsRunIn, IsExplainIn, IsInstantIn, AreWorkersIn, AreFew, HasFewWorkers, IsFoundIn, texts_in};
+ghost use Rattle.lusdist_shell.specs.Request.{text_in, is_given, form_in, turns_in, IsCommand, IsCheckIn, IsEvalIn, IsNewIn, IsPlanIn, IsReplayIn, IsRunIn, IsExplainIn, IsInstantIn, IsNumberIn, IsSourceIn, source_of, schedule_file, AreInstantsIn, AreWorkersIn, AreFew, HasFewWorkers, IsFoundIn, texts_in};
 ghost use Rattle.clap.specs.Walk.{texts};
 
 use crate::command::lusdist;
@@ -58,6 +58,21 @@ pub struct EvalRequest<'a> {
     pub always: &'a [&'a str],
 }
 
+/// Of what the beginning of a design is asked.
+#[derive(Clone, Copy)]
+pub struct NewRequest<'a> {
+    /// The name of the main node.
+    pub main: &'a str,
+    /// Whether a refusal is explained.
+    pub explain: bool,
+    /// Whether a refusal is reported in one line, with its place.
+    pub short: bool,
+    /// The path of the program.
+    pub program: &'a str,
+    /// How many instants the table of inputs has, where one is asked for in place of the placement.
+    pub table: Option<u32>,
+}
+
 /// How a plan is reported.
 #[derive(Clone, Copy)]
 pub enum PlanForm {
@@ -99,6 +114,29 @@ pub enum TurnsForm {
     Chart,
 }
 
+/// Where the turns of a replay come from.
+#[derive(Clone, Copy)]
+pub enum TurnsSource<'a> {
+    /// The schedule in the file at this path.
+    File(&'a str),
+    /// So many random turns, from a seed.
+    Random { seed: u32, count: u32 },
+    /// The words don't say: they give none of these, more than one, or a part of the second.
+    Unclear,
+}
+
+impl<'a> TurnsSource<'a> {
+    /// The path of the schedule's file, where there is one.
+    pub fn file(self) -> Option<&'a str>
+        ensures { option_map (λ s. s.now) result ≡ schedule_file self.entry }
+    {
+        match self {
+            TurnsSource::File(path) => Some(path),
+            _ => None,
+        }
+    }
+}
+
 /// What a replay is asked of.
 #[derive(Clone, Copy)]
 pub struct ReplayRequest<'a> {
@@ -114,9 +152,9 @@ pub struct ReplayRequest<'a> {
     pub place: &'a str,
     /// The path of the input table.
     pub table: &'a str,
-    /// The path of the schedule.
-    pub schedule: &'a str,
-    /// Whether it goes on after the schedule until no turn moves.
+    /// Where its turns come from.
+    pub source: TurnsSource<'a>,
+    /// Whether it goes on after these turns until no turn moves.
     pub finish: bool,
     /// What is reported of its turns on the error stream.
     pub turns: TurnsForm,
@@ -126,6 +164,9 @@ pub struct ReplayRequest<'a> {
     pub messages: bool,
     /// Whether the turns are reported too that found no room or no message.
     pub blocked: bool,
+    /// The first instant and the last one, counted from 0, of the slowest site at which turns are reported, where one is given.
+    pub from: Option<u32>,
+    pub to: Option<u32>,
     /// The names of the outputs that are observed, in the order of the words.
     pub always: &'a [&'a str],
 }
@@ -172,6 +213,8 @@ pub enum Request<'a> {
     Check(CheckRequest<'a>),
     /// An evaluation of a program at a table.
     Eval(EvalRequest<'a>),
+    /// A placement or a table of inputs, to begin with.
+    New(NewRequest<'a>),
     /// A plan of a program at a placement.
     Plan(PlanRequest<'a>),
     /// A replay of these files.
@@ -265,6 +308,33 @@ fn eval_in<'m, 'a: 'm>(matches: &'m ArgMatches<'a>) -> EvalRequest<'m>
     }
 }
 
+/// The number of instants that a text spells.
+fn instants_of(text: Option<&str>) -> Option<u32>
+    ensures { AreInstantsIn (option_map (λ s. s.now) text.entry) result }
+{
+    text?.parse::<u32>().ok()
+}
+
+/// The number of instants of a table, where it is given.
+fn instants_in<'a>(matches: &ArgMatches<'a>) -> Option<u32>
+    ensures { AreInstantsIn (first_of (codes "table") (rows_of (found_of matches.now))) result }
+{
+    instants_of(matches.get_str("table"))
+}
+
+/// What the matches of `new` ask for.
+fn new_in<'a>(matches: &ArgMatches<'a>) -> NewRequest<'a>
+    ensures { IsNewIn (Some (codes "new", rows_of (found_of matches.now))) result }
+{
+    NewRequest {
+        main: text(matches, "main"),
+        explain: is_given(matches, "explain"),
+        short: is_given(matches, "short"),
+        program: text(matches, "PROGRAM"),
+        table: instants_in(matches),
+    }
+}
+
 /// How the plan is to be reported: as a graph, even where a table is asked for too.
 fn form_in<'a>(matches: &ArgMatches<'a>) -> PlanForm
     ensures { result ≡ form_in (rows_of (found_of matches.now)) }
@@ -306,6 +376,54 @@ fn turns_in<'a>(matches: &ArgMatches<'a>) -> TurnsForm
     }
 }
 
+/// The number that a text spells.
+fn number_of(text: Option<&str>) -> Option<u32>
+    ensures { IsNumberIn (option_map (λ s. s.now) text.entry) result }
+{
+    text?.parse::<u32>().ok()
+}
+
+/// The number of an argument, where it is given.
+fn number_in<'a>(matches: &ArgMatches<'a>, argument: &str) -> Option<u32>
+    ensures { IsNumberIn (first_of argument.now (rows_of (found_of matches.now))) result }
+{
+    number_of(matches.get_str(argument))
+}
+
+/// The path of the schedule, where it is given.
+fn schedule_in<'a>(matches: &ArgMatches<'a>) -> Option<&'a str>
+    ensures { option_map (λ s. s.now) result
+        ≡ first_of (codes "SCHEDULE") (rows_of (found_of matches.now)) }
+{
+    matches.get_str("SCHEDULE")
+}
+
+/// Where turns come from, by the path of a schedule, a seed and a number of turns.
+fn source_of<'a>(
+    schedule: Option<&'a str>,
+    seed: Option<u32>,
+    count: Option<u32>,
+) -> TurnsSource<'a>
+    ensures { result ≡ source_of schedule.entry seed count }
+{
+    match (schedule, seed, count) {
+        (Some(path), None, None) => TurnsSource::File(path),
+        (None, Some(seed), Some(count)) => TurnsSource::Random { seed, count },
+        _ => TurnsSource::Unclear,
+    }
+}
+
+/// Where the turns come from that the matches of `replay` ask for.
+fn source_in<'a>(matches: &ArgMatches<'a>) -> TurnsSource<'a>
+    ensures { IsSourceIn (rows_of (found_of matches.now)) result }
+{
+    source_of(
+        schedule_in(matches),
+        number_in(matches, "random"),
+        number_in(matches, "turns"),
+    )
+}
+
 /// What the matches of `replay` ask for.
 fn replay_in<'m, 'a: 'm>(matches: &'m ArgMatches<'a>) -> ReplayRequest<'m>
     ensures { IsReplayIn (Some (codes "replay", rows_of (found_of matches.now))) result }
@@ -317,12 +435,14 @@ fn replay_in<'m, 'a: 'm>(matches: &'m ArgMatches<'a>) -> ReplayRequest<'m>
         program: text(matches, "PROGRAM"),
         place: text(matches, "PLACE"),
         table: text(matches, "TABLE"),
-        schedule: text(matches, "SCHEDULE"),
+        source: source_in(matches),
         finish: is_given(matches, "finish"),
         turns: turns_in(matches),
         vcd: vcd_in(matches),
         messages: is_given(matches, "messages"),
         blocked: is_given(matches, "blocked"),
+        from: instant_in(matches, "from"),
+        to: instant_in(matches, "to"),
         always: texts(matches, "always"),
     }
 }
@@ -391,6 +511,7 @@ pub fn request_in<'m, 'a: 'm>(matches: &'m ArgMatches<'a>) -> Request<'m>
     match name {
         "check" => Request::Check(check_in(found)),
         "eval" => Request::Eval(eval_in(found)),
+        "new" => Request::New(new_in(found)),
         "plan" => Request::Plan(plan_in(found)),
         "replay" => Request::Replay(replay_in(found)),
         "run" => Request::Run(run_in(found)),

@@ -5,3 +5,4 @@ mod Headlines
 mod Finishing
 mod Schedules
 pub mod NewSites
+mod Instants

@@ -1,3 +1,4 @@
 pub mod Worlds
 pub mod Headline
 pub mod Schedules
+pub mod Slowest

@@ -12,9 +12,11 @@ mod link_queue;
 mod next;
 mod offers;
 mod sites;
+mod slowest;
 mod world;
 
 pub use lusite::{LinkNo, Next, Site};
 pub use luworld::Turn;
+pub use next::goes_on;
 pub use sites::new_sites;
 pub use world::{World, replay};

@@ -258,7 +258,7 @@ fn new_link_queues(alloc: Global, links: usize, room: u32) -> Result<Vec<LinkQue
     Ok(link_queues)
 }
 
-fn instants_of(sites: &Vec<Site>) -> u32
+pub(crate) fn instants_of(sites: &Vec<Site>) -> u32
     requires { 0 < length sites.now.items }
     ensures instants { ForSome (slice_get sites.now.items 0) (λ v. result ≡ v.job.inputs.instants) }
     ensures job { (v : SiteView) → slice_get sites.now.items 0 ≡ Some v → IsJob v.job }

@@ -1,5 +1,5 @@
 -- What the turns of a replay did, reported turn by turn.
-use Rattle.std.specs.Prelude.{◌≡◌, ℕ, ◌+◌, Bool, true, false, not, ◌||◌, List, [], ◌∷◌, ◌++◌, codes, length}
+use Rattle.std.specs.Prelude.{◌≡◌, ℕ, ◌+◌, Bool, true, false, not, ◌||◌, ◌&&◌, nat_le, List, [], ◌∷◌, ◌++◌, codes, length}
 use Rattle.std.specs.Prelude.{Option, Some, None, if◌then◌else◌}
 use Rattle.std.specs.Fmt.{decimal}
 use Rattle.luworld.specs.declared.turn.Turn.{Turn}
@@ -9,6 +9,7 @@ use Rattle.luworld.specs.Systems.{Item, Compute, Puts, Takes, next_item, new_wor
 use Rattle.luworld.specs.Systems.{NoTurnMoves}
 use Rattle.luworld.specs.Jobs.{JobView, system_of}
 use Rattle.luworld.specs.WorldViews.{WorldView}
+use Rattle.luweave.specs.Slowest.{slowest}
 use Rattle.luweave_text.specs.declared.counts.Counts.{Counts}
 use Rattle.luweave_text.specs.declared.form.TraceForm.{TraceForm}
 use Rattle.luweave_text.specs.declared.form.TraceForm.TheVariants.{Lines, Chart}
@@ -64,9 +65,26 @@ by_answer Over moves waits = []
 abbrev pub turn_of : WorldView → ℕ → Turn
 turn_of w s = turn (system_of w.job) w.dones s
 
+-- an instant is among those from one to another, both of them; where one isn't given, nothing is cut there
+abbrev pub is_from : Option ℕ → ℕ → Bool
+is_from None t = true
+is_from (Some first) t = nat_le first t
+
+abbrev pub is_to : Option ℕ → ℕ → Bool
+is_to None t = true
+is_to (Some last) t = nat_le t last
+
+abbrev pub is_between : Option ℕ → Option ℕ → ℕ → Bool
+is_between from to t = is_from from t && is_to to t
+
+-- turns are reported at whose beginning the slowest site stands at such an instant
+abbrev pub uncut : Tracing → WorldView → List ℕ → List ℕ
+uncut how w text = if is_between how.from how.to (slowest w) then text else []
+
 abbrev pub turn_text : Tracing → WorldView → Counts → ℕ → List ℕ
-turn_text how w n s = by_answer (turn_of w s) (move_report how w n s (next_item (system_of w.job) w.dones s))
-    (wait_report how w n s (next_item (system_of w.job) w.dones s))
+turn_text how w n s =
+    by_answer (turn_of w s) (uncut how w (move_report how w n s (next_item (system_of w.job) w.dones s)))
+    (uncut how w (wait_report how w n s (next_item (system_of w.job) w.dones s)))
 
 -- how many turns have moved then, and how many are reported
 abbrev pub moved_then : ℕ → Turn → ℕ

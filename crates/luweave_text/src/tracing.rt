@@ -11,7 +11,7 @@ ghost use Rattle.luweave.specs.Worlds.{IsNewWorld};
 ghost use Rattle.luweave.specs.Headline.{IsFaithful};
 ghost use Rattle.luweave_text.specs.WorldText.{Adds};
 ghost use Rattle.luweave_text.specs.Items.{message_text, item_text};
-ghost use Rattle.luweave_text.specs.Traced.{blocked_report, counts_of, counts_then, line, move_report, no_counts, one_more, opening, passes, report, trace_text, turn_text, wait_report, wait_words, HasMore, IsTraced};
+ghost use Rattle.luweave_text.specs.Traced.{blocked_report, counts_of, counts_then, is_between, line, move_report, no_counts, one_more, opening, passes, report, trace_text, turn_text, uncut, wait_report, wait_words, HasMore, IsTraced};
 
 use crate::charting::{put_chart_line, put_heading, target_of};
 use crate::counts::Counts;
@@ -21,7 +21,7 @@ use crate::waits::{put_wait, put_wait_cell};
 use lubase::Name;
 use luflow::Msg;
 use luplace::Plan;
-use luweave::{LinkNo, Next, Site, Turn, World};
+use luweave::{LinkNo, Next, Site, Turn, World, goes_on};
 use std::alloc::{AllocError, Global};
 
 /// The number of a message, and what it says of a type with these names.
@@ -87,20 +87,6 @@ fn put_item(
         }
         Next::Ended => Ok(()),
         Next::Faulted => Ok(()),
-    }
-}
-
-/// Whether a site does anything more.
-pub(crate) fn goes_on(next: Next) -> bool
-    ensures { (job : JobView) (s n : ℕ) → IsNext job s n next
-        → result ≡ is_some (slice_get (script job (streams_of job) s) n) }
-{
-    match next {
-        Next::Local => true,
-        Next::Put(_, _) => true,
-        Next::Take(_) => true,
-        Next::Ended => false,
-        Next::Faulted => false,
     }
 }
 
@@ -279,6 +265,32 @@ fn wait_report(
     Ok(line)
 }
 
+/// Whether an instant is among those from one to another, both of them; where one isn't given, nothing is cut there.
+fn is_between(from: Option<u32>, to: Option<u32>, instant: u32) -> bool
+    ensures { result ≡ is_between from to instant }
+{
+    let is_late = match from {
+        Some(first) => first <= instant,
+        None => true,
+    };
+    let is_early = match to {
+        Some(last) => instant <= last,
+        None => true,
+    };
+    is_late && is_early
+}
+
+/// What is reported, unless it is cut away by the instant of the slowest site.
+fn uncut(alloc: Global, world: &World, how: Tracing, text: String) -> String
+    ensures { string_bytes result ≡ uncut how world.now (string_bytes text) }
+{
+    if is_between(how.from, how.to, world.slowest()) {
+        text
+    } else {
+        String::new(alloc)
+    }
+}
+
 /// Adds what is reported of a turn. Answers how many are reported then.
 fn put_told(text: &mut String, shown: usize, told: &str) -> Result<usize, AllocError>
     requires few { shown ≤ length (string_bytes text.old) }
@@ -315,7 +327,9 @@ fn traced_turn(
 {
     let Counts { moved, shown } = counts;
     let moves = move_report(alloc, plan, world, how, counts, site)?;
+    let moves = uncut(alloc, world, how, moves);
     let waits = wait_report(alloc, plan, world, how, counts, site)?;
+    let waits = uncut(alloc, world, how, waits);
     match world.turn(site) {
         Turn::Moved => {
             let shown = put_told(text, shown, moves.as_str())?;

@@ -10,9 +10,9 @@ ghost use Rattle.luweave_text.specs.WorldText.{Adds};
 ghost use Rattle.luweave_text.specs.Waits.{AreStandLines, IsStandLine, from_text, instant_text, inward, move_text, outward, stand_line, stand_text, to_text, wait_cell, wait_text};
 
 use crate::text::site_name;
-use crate::tracing::{flow_name, goes_on};
+use crate::tracing::flow_name;
 use luplace::Plan;
-use luweave::{LinkNo, Next, World};
+use luweave::{LinkNo, Next, World, goes_on};
 use std::alloc::{AllocError, Global};
 
 /// Adds the site that a link leads to.

@@ -1,4 +1,4 @@
-use Rattle.std.proofs.Common.{refl}
+use Rattle.std.proofs.Common.{refl, Some, None}
 use Rattle.clap.specs.Walk.{walked}
 use Rattle.clap.specs.Takes.{walk_passes}
 use Rattle.clap.specs.Faults.{walk_fault, defaults_fault}
@@ -15,11 +15,13 @@ returns-clause-asked c = record {
   program = refl;
   place = refl;
   table = refl;
-  schedule = refl;
+  source = record { schedule = Some _; seed = None; count = None; schedule_is = refl; seed_is = refl; count_is = refl; source_is = refl };
   finish = refl;
   turns = refl;
   vcd = refl;
   messages = refl;
   blocked = refl;
+  from = refl;
+  to = refl;
   always = refl;
 }

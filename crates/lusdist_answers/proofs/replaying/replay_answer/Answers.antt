@@ -1,19 +1,14 @@
-use Rattle.std.proofs.Common.{sym, subst}
-use Rattle.std.specs.Prelude.{option_map, string_bytes}
-use Rattle.std.proofs.lemmas.Result.{IfOk-weaker, IfErr-weaker}
-use Rattle.lusdist_call.specs.Asked.{IsAskedFor}
-use Rattle.lusdist_call.specs.Stopped.IsReplayStopped.{replay_memory}
-use Rattle.lusdist_answers.proofs.Replays.{is_replayed}
+use Rattle.std.proofs.Common.{refl, sym}
+use Rattle.std.proofs.lemmas.Result.{IfErr-weaker}
+use Rattle.lusdist_call.specs.Stopped.IsReplayRefused.{replay_mistaken, replay_stopped}
 use Rattle.lusdist_answers.proofs.replaying.replay_answer.Goals as goal
 
-pub returns-clause-reply : goal.returns-clause-reply
-returns-clause-reply g c =
-    let gives = g.F.Files.gives c.args.files.now in
-    let request = c.args.request in
-    let job = c.in_ok-job.job in
-    let turns = c.deref.result.now in
-    let asked = subst (λ ts. IsAskedFor gives request job ts) (sym c.deref.ensures.value) c.in_ok-job.ensures.asked in
-    IfOk-weaker c.printed.result _ _ (λ reply printed. is_replayed gives request job turns (string_bytes reply.text) (string_bytes reply.notes) reply.violated (option_map string_bytes reply.dump) asked c.in_ok-job.ensures.observed printed) c.printed.ensures.printed
+pub returns-in-Some-clause-refused : goal.returns-in-Some-clause-refused
+returns-in-Some-clause-refused g c = replay_mistaken c.in-Some.mistake (sym c.in-Some.ensures) refl
 
-pub returns-clause-stopped : goal.returns-clause-stopped
-returns-clause-stopped g c = IfErr-weaker c.printed.result _ _ (λ stop h. replay_memory h) c.printed.ensures.memory
+pub replayed_answer-requires : goal.replayed_answer-requires
+replayed_answer-requires g c = sym c.in-None.ensures
+
+pub returns-in-None-clause-refused : goal.returns-in-None-clause-refused
+returns-in-None-clause-refused g c =
+    IfErr-weaker c.replayed_answer.result _ _ (λ stop h. replay_stopped (sym c.in-None.ensures) h) c.replayed_answer.ensures.stopped

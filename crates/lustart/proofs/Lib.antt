@@ -1,0 +1,2 @@
+mod Repeats
+pub mod Spelled

@@ -1,0 +1,2 @@
+pub mod Placement
+pub mod Table
