@@ -1,7 +1,7 @@
 -- All refusals that are told of a text that is no program: it is overwritten where it is refused, and judged
 -- anew.
-use Rattle.std.specs.Prelude.{◌≡◌, ◌⊎◌, ℕ, List, length}
-use Rattle.std.specs.List.{prefix_len, All, Contains}
+use Rattle.std.specs.Prelude.{◌≡◌, ◌⊎◌, ℕ, Bool, List, length, nat_eq}
+use Rattle.std.specs.List.{prefix_len, All, Contains, IsDistinct}
 use Rattle.std.specs.List.Sorted.{IsNonDecreasingBy}
 use Rattle.std.specs.Str.{IsUtf8}
 use Rattle.lusyn.specs.Refusals.{IsRefused}
@@ -37,10 +37,16 @@ pub record IsRefusedLike (path text read : List ℕ) (r : SyntaxRefusal) : Type 
 abbrev pub IsReadSo : List ℕ → List ℕ → SyntaxRefusal → Type 0
 IsReadSo path text r = (read : List ℕ) × IsRefusedLike path text read r
 
--- refusals that are told of a text: each of the text as it was read, and that of the text itself among them
+-- two of them stand at one byte
+abbrev pub at_one_byte : SyntaxRefusal → SyntaxRefusal → Bool
+at_one_byte a b = nat_eq a.byte b.byte
+
+-- Refusals that are told of a text: each of the text as it was read, that of the text itself among them, and no
+-- two at one byte.
 pub record AreRefusalsOf (path text : List ℕ) (found : List SyntaxRefusal) : Type 0 where
   pub own : (r : SyntaxRefusal) × Contains found r × IsRefusedLike path text text r
   pub each : All (IsReadSo path text) found
+  pub distinct : IsDistinct at_one_byte found
 
 -- the same in the order of their bytes
 pub record AreRefusals (path text : List ℕ) (found : List SyntaxRefusal) : Type 0 where

@@ -1,9 +1,10 @@
 //! What is told of a text that is no program, beyond its first refusal: it is overwritten where it is refused, and judged anew.
 
-ghost use Rattle.std.specs.Prelude.{◌≡◌, ◌≢◌, ◌++◌, ◌⊎◌, [], ◌∷◌, false, length, IfOk, MatchOption};
+ghost use Rattle.std.specs.Prelude.{◌≡◌, ◌≢◌, ◌++◌, ◌⊎◌, [], ◌∷◌, false, length, nat_eq, IfOk, MatchOption};
+ghost use Rattle.std.specs.List.{list_any};
 ghost use Rattle.lusyn.specs.declared.error.SynError.{SynError as AnyError};
 ghost use Rattle.luexplain.specs.declared.refused.SyntaxRefusal.{SyntaxRefusal as AnyRefusal};
-ghost use Rattle.luexplain.specs.Refusals.{byte_of_syntax, AreAllRefusals, AreNone, AreRefusalsOf, IsRefusedAs, IsRefusedLike};
+ghost use Rattle.luexplain.specs.Refusals.{at_one_byte, byte_of_syntax, AreAllRefusals, AreNone, AreRefusalsOf, IsRefusedAs, IsRefusedLike};
 
 use crate::around::what_stands;
 use crate::recovery::{Patch, of_number, overwrite, patch_at, whole_of};
@@ -99,14 +100,10 @@ fn read_on(
 
 /// Whether a refusal at this byte is told.
 fn is_told(found: &[SyntaxRefusal], byte: usize) -> bool
-    ensures { length found.now ≡ 0 → result ≡ false }
+    ensures told { result ≡ list_any (λ r. nat_eq byte r.byte) found.now }
+    ensures none { length found.now ≡ 0 → result ≡ false }
 {
-    for refusal in found {
-        if refusal.byte == byte {
-            return true;
-        }
-    }
-    false
+    found.iter().any(|refusal| byte == refusal.byte)
 }
 
 /// Adds this refusal of a text as it is read, unless one at this place is told, and overwrites it there. Answers whether it is to be judged anew.
@@ -124,7 +121,8 @@ fn push_refusal(
     ensures next { IfOk result (λ goes_on.
         ((found.new.items ≡ found.old.items) × (goes_on ≡ false) × (length found.old.items ≢ 0))
         ⊎ ((r : AnyRefusal) × (found.new.items ≡ found.old.items ++ r ∷ [])
-        × IsRefusedLike path.now text.now read.old.items r)) }
+        × IsRefusedLike path.now text.now read.old.items r
+        × (list_any (at_one_byte r) found.old.items ≡ false))) }
 {
     let byte = byte_of(text, &error);
     if is_told(found.as_slice(), byte) {
@@ -154,7 +152,8 @@ fn push_next(
         ((found.new.items ≡ found.old.items) × (goes_on ≡ false)
         × (length found.old.items ≡ 0 → (e : AnyError) → ¬ IsRefusedAs read.old.items e))
         ⊎ ((r : AnyRefusal) × (found.new.items ≡ found.old.items ++ r ∷ [])
-        × IsRefusedLike path.now text.now read.old.items r)) }
+        × IsRefusedLike path.now text.now read.old.items r
+        × (list_any (at_one_byte r) found.old.items ≡ false))) }
 {
     match refusal_in(alloc, read.as_slice())? {
         Some(error) => push_refusal(found, alloc, path, text, read, error),
@@ -177,7 +176,7 @@ fn read_through(alloc: Global, path: &str, text: &[u8]) -> Result<Vec<SyntaxRefu
     Ok(found)
 }
 
-/// All refusals that are told of a text, in the order of their bytes: where it is refused, it is overwritten, by blanks or by a sign that is as good,
+/// All refusals that are told of a text, in the order of their bytes, no two at one: where it is refused, it is overwritten, by blanks or by a sign that is as good,
 /// and judged anew, as long as that gives refusals at other bytes, and at most 50 times. None where it is a program; the first alone of a file
 /// whose path ends as that of a table or a placement does. `text` is the text of the file of this path.
 ///
