@@ -2,7 +2,7 @@
 //!
 //! # Counting, before the list is made
 //!
-//! - [`sizes`]: the size of each node, counted up to 4,097.
+//! - [`sizes`]: the size of each node, counted up to 4,097; [`count_of`]: that of the node that a name means.
 //! - [`is_too_large`]: whether the flat list of the main node is longer than 4,096.
 //!
 //! The sizes are those of `lucore_laws`; `specs/Counted.antt` says what a count is.
@@ -36,6 +36,7 @@ mod types;
 mod variables;
 mod walk;
 
+pub use count::count_of;
 pub use laying::{FlatList, lay_out};
 pub use moved::push_moved;
 pub use nodes::{is_too_large, sizes};

@@ -15,7 +15,7 @@ pub mod Well
 pub mod Spots
 pub mod ListToSource
 pub mod Roots
-mod ListInstances
+pub mod ListInstances
 pub mod ByCalls
 pub mod Facts
 mod NodeToSource

@@ -6,6 +6,7 @@
 //! - `stages`: clocks and initialisation of texts that the stage before refuses, and of programs that no text has.
 //! - `surveys`: all faults of the first stage that has any (`lustat`).
 //! - `flats`: what a program that keeps all rules lends, and flat lists with their ranks and owners (`lustat`, `lucore`).
+//! - `inside`: instances of called nodes (`luinside`).
 //! - `operators`: operators at data of the wrong types and at nil (`lueval`).
 //! - `streams`: tables that fit a program, its streams and outputs (`luflow`, `lueval`).
 //! - `values`: lists of values (`luflow`).
@@ -24,6 +25,8 @@ mod calls;
 mod flats;
 #[cfg(test)]
 mod graph;
+#[cfg(test)]
+mod inside;
 #[cfg(test)]
 mod lists;
 #[cfg(test)]

@@ -1,0 +1,9 @@
+mod Pushing
+mod Within
+mod Going
+mod Bounds
+mod Fits
+mod Standing
+mod Complete
+mod Meaning
+mod Passing

@@ -1,0 +1,4 @@
+pub mod Calls
+pub mod Starts
+pub mod Listing
+pub mod Listed
