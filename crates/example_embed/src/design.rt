@@ -37,6 +37,7 @@ pub(crate) const OUTPUTS: EvalRequest<'static> = EvalRequest {
     program: "design",
     table: "table",
     all: false,
+    deep: false,
     chronogram: false,
     from: None,
     to: None,

@@ -1,6 +1,6 @@
 //! One site that goes on by blocks of instants, over the ends of its links.
 
-ghost use Rattle.std.specs.Prelude.{◌≡◌, ℕ, ◌<◌, IfOk, IfSome, Some, slice_get};
+ghost use Rattle.std.specs.Prelude.{◌≡◌, ℕ, ◌+◌, ◌<◌, ◌≤◌, IfOk, IfSome, Some, slice_get};
 ghost use Rattle.std.specs.Arc.{arc_value};
 ghost use Rattle.luworld.specs.Needs.{sites_of};
 ghost use Rattle.lulink.specs.Views.{SenderView, ReceiverView};
@@ -13,7 +13,7 @@ use crate::site::{Frame, RowSite};
 use crate::start::start;
 use crate::tried::Tried;
 use luflow::{Flat, Status};
-use lulink::{Rx, Tx};
+use lulink::{EndTally, Rx, Tx};
 use luplace::Job;
 use std::alloc::{AllocError, Global};
 use std::marker::Model;
@@ -129,6 +129,29 @@ impl RowStation {
     /// The first instant of the block at hand, from 0; behind the last block the number of instants. Takes no memory.
     pub fn instant(&self) -> u32 {
         u32::try_from(self.inner.t).unwrap_or(u32::MAX)
+    }
+
+    /// How many ends of links the site has. Takes no memory.
+    pub fn end_count(&self) -> usize {
+        self.inner
+            .outlets
+            .len()
+            .saturating_add(self.inner.sources.len())
+    }
+
+    /// What the end of this place has counted, from 0 on: first the sending ends, then the receiving ones. None where there is no
+    /// such end. Takes no memory.
+    pub fn end(&self, place: usize) -> Option<EndTally>
+        ensures { IfSome result (λ e. e.tally.waited ≤ e.tally.passed + 1) }
+    {
+        match self.inner.outlets.as_slice().get(place) {
+            Some(outlet) => Some(outlet.tx.end_tally()),
+            None => {
+                let behind = place.checked_sub(self.inner.outlets.len())?;
+                let source = self.inner.sources.as_slice().get(behind)?;
+                Some(source.rx.end_tally())
+            }
+        }
     }
 
     /// Does what is next.

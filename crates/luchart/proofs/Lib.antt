@@ -1,2 +1,3 @@
 pub mod Ranges
 pub mod CutLaws
+pub mod ScopeLaws

@@ -14,9 +14,9 @@
 --   b10 v1
 --   #13
 --
--- Each flow has a code, `v` and its number. An instant is a time; those at which no flow changes are left
--- out, and the last time is that behind the last instant.
-use Rattle.std.specs.Prelude.{ℕ, zero, suc, Bool, true, false, not, List, [], ◌∷◌, ◌++◌, length, codes}
+-- Each flow has a code, `v` and its number; a name with dots is that of a flow in scopes. An instant is a
+-- time; those at which no flow changes are left out, and the last time is that behind the last instant.
+use Rattle.std.specs.Prelude.{ℕ, zero, suc, ◌+◌, Bool, true, false, not, List, [], ◌∷◌, ◌++◌, length, codes}
 use Rattle.std.specs.Prelude.{flat_map, nat_eq, ℤ, Option, Some, None, slice_get, if◌then◌else◌}
 use Rattle.std.specs.Int.{w64, cast_unsigned}
 use Rattle.std.specs.Fmt.{decimal, digits}
@@ -33,6 +33,7 @@ use Rattle.luflow.specs.Tables.{OutputColumn}
 use Rattle.lutab.specs.Text.{status_text}
 use Rattle.lutab.specs.Outputs.{instants_of}
 use Rattle.luchart.specs.Signals.{Signal, signals_of, status_at}
+use Rattle.luchart.specs.Scopes.{ended, moved, own_name, scopes}
 
 -- VALUES
 
@@ -94,10 +95,11 @@ variable_type kinds.Bool = codes "wire 1"
 variable_type kinds.Int = codes "integer 64"
 variable_type (kinds.Enum place size) = codes "string 1"
 
+-- a flow in its scope
 abbrev pub declaration : ℕ → Signal → List ℕ
 declaration k signal =
     codes "$var " ++ (variable_type signal.kind
-    ++ (codes " " ++ (code k ++ (codes " " ++ (signal.name ++ codes " $end\n")))))
+    ++ (codes " " ++ (code k ++ (codes " " ++ (own_name signal.name ++ codes " $end\n")))))
 
 -- what is made of a flow, where there is one
 abbrev pub made_of : (Signal → List ℕ) → Option Signal → List ℕ
@@ -109,8 +111,15 @@ abbrev pub of_flows : (ℕ → Signal → List ℕ) → List Signal → List ℕ
 of_flows made signals = flat_map (λ k. made_of (made k) (slice_get signals k))
     (range_with_len 0 (length signals))
 
+-- flows from the one of number k on, each in its scopes, where the one before stands in some; at last all are
+-- ended
+abbrev pub scoped : List (List ℕ) → ℕ → List Signal → List ℕ
+scoped before k [] = flat_map ended before
+scoped before k (x ∷ xs) =
+    moved before (scopes x.name) ++ (declaration k x ++ scoped (scopes x.name) (k + 1) xs)
+
 abbrev pub declarations : List Signal → List ℕ
-declarations signals = of_flows declaration signals
+declarations signals = scoped [] 0 signals
 
 -- a scope of the main node's name
 abbrev pub opening : List ℕ → List ℕ

@@ -3,3 +3,4 @@ pub mod Signals
 pub mod Chronogram
 pub mod Dump
 pub mod Cut
+pub mod Scopes

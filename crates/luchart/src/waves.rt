@@ -6,6 +6,7 @@ ghost use Rattle.luchart.specs.Pieces.{Adds};
 ghost use Rattle.luchart.specs.Signals.{signal_view, signals_view};
 ghost use Rattle.luchart.specs.Dump.{all_changes, binary, change, changes, closing, code, declaration, declarations, dump, dump_text, header, moment, number, opening, same_datum, same_status, time, timed, times, truth, value, variable_type, word};
 
+use crate::scopes::{own_name, put_ends, put_moved};
 use crate::signal::{Signal, instants_of, signals_of, status_at};
 use lubase::Name;
 use luflow::{Datum, Enum, Outputs, Status};
@@ -136,18 +137,30 @@ pub fn put_declaration(text: &mut String, k: usize, signal: &Signal<'_>) -> Resu
     ensures { Adds result text.old text.new (declaration k (signal_view signal.now)) }
 {
     let kind = variable_type(signal.kind);
-    let name = signal.name;
+    let name = own_name(signal.name);
     writeln!(text, "$var {kind} v{k} {name} $end")
 }
 
-/// Adds the declarations of all flows.
+/// The name of a flow.
+fn name_of<'a>(signal: &Signal<'a>) -> &'a str
+    ensures { result.now ≡ signal.now.name.now }
+{
+    signal.name
+}
+
+/// Adds the declarations of all flows, each in its scopes.
 fn put_declarations(text: &mut String, signals: &[Signal<'_>]) -> Result<(), AllocError>
     ensures { Adds result text.old text.new (declarations (signals_view signals.now)) }
 {
+    let mut before = "";
     for k in 0..signals.len() {
-        put_declaration(text, k, &signals[k])?;
+        let signal = &signals[k];
+        let name = name_of(signal);
+        put_moved(text, before, name)?;
+        put_declaration(text, k, signal)?;
+        before = name;
     }
-    Ok(())
+    put_ends(text, before)
 }
 
 /// Adds a scope of the main node's name.

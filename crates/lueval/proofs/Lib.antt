@@ -2,3 +2,4 @@ mod Ageing
 pub mod Answering
 pub mod Listing
 mod Steps
+mod Wanting

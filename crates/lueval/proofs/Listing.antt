@@ -1,6 +1,6 @@
 -- The streams of the outputs alone are the outputs among all streams.
 use Rattle.std.proofs.Common.{◌≡◌, ◌≢◌, ℕ, zero, suc, ◌+◌, ◌<◌, Bool, true, false, cond, List, [], ◌∷◌, ◌++◌, length, map, Some, subst, refl, sym, ap, ap₂, ◌∙◌, arith}
-use Rattle.std.specs.Prelude.{All, slice_get}
+use Rattle.std.specs.Prelude.{All, Contains, slice_get}
 use Rattle.std.specs.List.{range_with_len}
 use Rattle.std.proofs.lemmas.List.{length-map}
 use Rattle.std.proofs.lemmas.List.Elements.{All-nil, All-cons}
@@ -22,7 +22,7 @@ use Rattle.luflow.proofs.Solutions.{IsSolution-solution, solutions_same}
 use Rattle.lueval_lines.specs.declared.columns.Wanted.TheVariants.{All as AllOf, Outputs}
 use Rattle.lueval_lines.specs.declared.columns.Notes.{Notes}
 use Rattle.lueval_lines.specs.Outputs.{outputs_in}
-use Rattle.lueval.specs.Whole.{AreStreams, AreWholeOutputs}
+use Rattle.lueval.specs.Whole.{AreFlowStreams, AreStreams, AreWholeOutputs}
 use Rattle.lueval_lines.specs.Columns.{Column, items_of, lists_of, is_wanted, AreAllKept, AreColumns}
 use Rattle.lueval.specs.Steps.{AreWhole}
 use Rattle.lueval.proofs.Answering.{meant}
@@ -71,6 +71,18 @@ whole_streams flat inputs kept columns is_flat all len are =
           let lv : v < flows_of flat = let l = slice_get_within columns v w.0 w.1 in let m = is_flat.variables_first in omega (arith, len) in
           ap (map Known) (sym w.2) ∙ (every_column inputs (solution flat inputs) flat.variables kept columns inputs.instants v w.0 all len are w.1).known
           ∙ map_same (solution flat inputs v) (σ v) 0 inputs.instants (λ t. solutions_same flat inputs (solution flat inputs) σ is_flat.ordered (IsSolution-solution flat inputs is_flat.ordered) sol v t lv);
+    }
+
+-- the columns of the flows that are wanted are their streams in each solution
+pub flow_streams : (flat : FlatView) (inputs : InputsView) (wanted : List Bool) (kept : List ℕ) (columns : List Column) → IsFlat flat → ((i : ℕ) → i < flows_of flat → slice_get wanted i ≡ Some true → Contains kept i) → length columns ≡ flows_of flat → AreColumns inputs (solution flat inputs) kept columns inputs.instants → AreFlowStreams flat inputs wanted (lists_of columns)
+flow_streams flat inputs wanted kept columns is_flat all len are =
+    record {
+      count = length-map columns items_of ∙ len;
+      each = λ σ sol i statuses yes there.
+          let w = from_map columns (slice_get columns i) i statuses refl there in
+          let li : i < flows_of flat = let l = slice_get_within columns i w.0 w.1 in omega (arith, len, l) in
+          ap (map Known) (sym w.2) ∙ (column_at inputs (solution flat inputs) kept columns inputs.instants i w.0 are (all i li yes) w.1).known
+          ∙ map_same (solution flat inputs i) (σ i) 0 inputs.instants (λ t. solutions_same flat inputs (solution flat inputs) σ is_flat.ordered (IsSolution-solution flat inputs is_flat.ordered) sol i t li);
     }
 
 -- in a solution that nothing breaks

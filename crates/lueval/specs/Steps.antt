@@ -1,5 +1,5 @@
 -- Where the whole evaluator stands.
-use Rattle.std.specs.Prelude.{◌≡◌, ◌≢◌, ℕ, ◌<◌, List, length, All as Each, Some, slice_index}
+use Rattle.std.specs.Prelude.{◌≡◌, ◌≢◌, ℕ, ◌<◌, ◌≤◌, List, length, All as Each, Some, slice_index}
 use Rattle.luflow.specs.declared.data.Status.{Status}
 use Rattle.luflow.specs.declared.form.Flow.{Flow}
 use Rattle.luflow.specs.Program.{FlatView, InputsView, flow_at, flows_of}
@@ -16,7 +16,7 @@ use Rattle.lueval.specs.declared.machine.Machine.{Machine}
 use Rattle.lueval_lines.specs.Frames.{IsShown}
 use Rattle.lueval_lines.specs.Operations.{form_of}
 use Rattle.lueval_lines.specs.Cells.{statuses, outcome_of, given_at, view_of, looks_back, IsLast}
-use Rattle.lueval_lines.specs.Columns.{AreAllKept, AreColumns}
+use Rattle.lueval_lines.specs.Columns.{AreAllKept, AreColumns, AreEmpty, AreKept}
 
 -- the value of a line whose branches are among these, from the table and what the machine holds
 abbrev pub Computes : InputsView → Machine → ℕ → List ℕ → Line → Answer → Type 0
@@ -43,6 +43,12 @@ pub record IsNew (flows : ℕ) (machine : Machine) : Type 0 where
   pub shown_len : length machine.shown.items ≡ flows
   pub lasts_len : length machine.lasts.items ≡ flows
   pub fresh : Each (λ x. x ≡ Absent) machine.lasts.items
+
+-- before the first instant: a column for each of the first flows, and no status of those that are kept
+pub record AreReady (flows instants : ℕ) (notes : Notes) : Type 0 where
+  pub few : length notes.columns.items ≤ flows
+  pub kept : AreKept (length notes.columns.items) notes.kept.items
+  pub columns : AreEmpty (length notes.columns.items) notes.kept.items instants notes.columns.items
 
 -- the whole streams of the variables that are wanted, in a solution that nothing breaks
 pub record AreWhole (wanted : Wanted) (flat : FlatView) (inputs : InputsView) (notes : Notes) : Type 0 where

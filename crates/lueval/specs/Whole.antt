@@ -1,11 +1,11 @@
 -- What the whole evaluator answers.
-use Rattle.std.specs.Prelude.{◌≡◌, ℕ, ◌<◌, ◌⊎◌, List, [], map, length, Some, slice_get}
+use Rattle.std.specs.Prelude.{◌≡◌, ℕ, ◌<◌, ◌⊎◌, Bool, true, List, [], map, length, Some, slice_get}
 use Rattle.lutree.specs.Tree.{ProgramTree}
 use Rattle.luflow.specs.declared.data.Status.{Status}
 use Rattle.luflow.specs.declared.form.Flow.{Flow}
 use Rattle.luflow.specs.declared.form.FaultKind.{FaultKind}
 use Rattle.luflow.specs.declared.variable.Variable.{Variable}
-use Rattle.luflow.specs.Program.{FlatView, InputsView, flow_at}
+use Rattle.luflow.specs.Program.{FlatView, InputsView, flow_at, flows_of}
 use Rattle.luflow.specs.Tables.{OutputColumn}
 use Rattle.luflow.specs.Streams.{Known, Streams}
 use Rattle.luflow.specs.Messages.{marks}
@@ -48,6 +48,15 @@ pub record AreWholeColumns (flat : FlatView) (inputs : InputsView)
   pub solution : AreStreams flat inputs streams
   pub source : AreMeant flat inputs streams
   pub are : columns ≡ columns_in flat.variables streams
+
+-- For each flow a list: of a flow that is wanted, the statuses that it has in the solution, one for each
+-- instant of the table.
+pub record AreFlowStreams (flat : FlatView) (inputs : InputsView) (wanted : List Bool)
+    (streams : List (List Status)) : Type 0 where
+  pub count : length streams ≡ flows_of flat
+  pub each : (σ : Streams) → IsSolution flat inputs σ → (i : ℕ) (statuses : List Status)
+      → slice_get wanted i ≡ Some true → slice_get streams i ≡ Some statuses
+      → map Known statuses ≡ marks (σ i) inputs.instants
 
 -- no operator is a fault at an instant of the table
 abbrev pub HasNoFault : FlatView → InputsView → Type 0

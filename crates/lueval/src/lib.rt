@@ -1,14 +1,15 @@
 //! The evaluator of whole programs, and the value of one flow at one instant, on which it stands.
 //!
 //! - [`whole`], [`Streams`], [`EvalError`]: a program's only solution at a table, or its first fault; [`whole_outputs`]: its
-//!   outputs alone, in less memory; [`whole_columns`]: all its main variables by name.
+//!   outputs alone, in less memory; [`whole_columns`]: all its main variables by name; [`whole_flows`]: the streams of chosen flows.
 //! - All that is public of `lueval_lines` but its code and columns: the data operators, lines and cells.
 #![tactic(auto)]
 
 mod evaluator;
+mod flows;
 mod machine;
 
-pub use evaluator::{whole, whole_columns, whole_outputs};
+pub use evaluator::{whole, whole_columns, whole_flows, whole_outputs};
 pub use lueval_lines::{
     Answer, Cell, EvalError, Line, LineClock, Past, Streams, cell_at, cell_of, choice, column_of,
     double, is_absent, is_datum, is_on, line_of, moved_branches, moved_line, newest, single,

@@ -1,9 +1,10 @@
 mod Pushing
 mod Within
 mod Going
-mod Bounds
-mod Fits
-mod Standing
+pub mod Bounds
+pub mod Fits
+pub mod Standing
 mod Complete
-mod Meaning
+pub mod Meaning
 mod Passing
+mod Low

@@ -1,5 +1,7 @@
 -- What the list of a program's instances is.
-use Rattle.std.specs.Prelude.{◌≡◌, ◌<◌, ◌⊎◌, ℕ, ◌+◌, List, [], ◌∷◌, map, Some, slice_get, All, Contains}
+use Rattle.std.specs.Prelude.{◌≡◌, ◌<◌, ◌≤◌, ◌⊎◌, ℕ, ◌+◌, List, [], ◌∷◌, length, map, Some, slice_get, All}
+use Rattle.std.specs.Prelude.{Contains}
+use Rattle.lulimits.specs.Limits.{most_flows}
 use Rattle.lutree.specs.Tree.{NodeTree, ProgramTree}
 use Rattle.luflow.specs.Program.{FlatView}
 use Rattle.lusource.specs.Names.{variables_of, place_of, AreDistinct}
@@ -17,6 +19,11 @@ pub record IsInstance (p : ProgramTree) (main : List ℕ) (flat : FlatView) (x :
   pub at_path : instance_at p main x.path ≡ Some node
   pub flows : (y : List ℕ) → Contains (variables_of node) y
       → IsFlowOf p main flat x.path y (x.start + place_of (variables_of node) y)
+
+-- there is room for all its variables in a flat program
+abbrev pub IsLow : ProgramTree → Instance → Type 0
+IsLow p x = (node : NodeTree) → slice_get p.nodes x.node ≡ Some node
+    → x.start + length (variables_of node) ≤ most_flows
 
 abbrev pub paths : List Instance → List Path
 paths = map (λ (x : Instance). x.path)

@@ -1,10 +1,10 @@
 //! The list of all instances.
 
-ghost use Rattle.std.specs.Prelude.{◌≡◌, ◌≤◌, ◌+◌, ◌++◌, ◌∷◌, [], IfOk, OnOk, slice_get, slice_index};
+ghost use Rattle.std.specs.Prelude.{◌≡◌, ◌≤◌, ◌+◌, ◌++◌, ◌∷◌, [], All, IfOk, OnOk, slice_get, slice_index};
 ghost use Rattle.lutree.specs.Tree.{program_view};
 ghost use Rattle.luinside.specs.Starts.{starts_in, AreBounds};
 ghost use Rattle.luinside.specs.Listing.{all_from};
-ghost use Rattle.luinside.specs.Listed.{ListsInstances};
+ghost use Rattle.luinside.specs.Listed.{IsLow, ListsInstances};
 
 use crate::starts::{CallStart, call_starts};
 use lubase::{Row, number_at};
@@ -119,8 +119,10 @@ fn main_instance(alloc: Global, place: usize) -> Instance
 ///
 /// An error means that memory ran out.
 pub fn instances(alloc: Global, program: &Checked) -> Result<Vec<Instance>, AllocError>
-    ensures { IfOk result (λ found. ListsInstances (program_view program.now.program)
+    ensures lists { IfOk result (λ found. ListsInstances (program_view program.now.program)
         program.now.main found.items) }
+    ensures low { IfOk result (λ found. All (IsLow (program_view program.now.program))
+        found.items) }
 {
     let catalog = program.catalog();
     let counts = sizes(alloc, program)?;

@@ -19,7 +19,7 @@ inside_tx =
     recorded_send tx.the_field.row _ _ tx.the_type.to_one
     (struct_send (shape tx.the_type) (
       search (sendable, crosses, table.the_send, table.the_sync, msg.the_send, option.the_send, heap.the_send) depth 12,
-      (search (sendable, put_side.the_field_send, seat.the_send, option.the_send, msg.the_send), (search sendable, tt)),
+      (search (sendable, put_side.the_field_send, seat.the_send, option.the_send, msg.the_send), (search sendable, (search sendable, tt))),
     ))
 
 pub tx_send : IsSend Tx.the_row
@@ -30,7 +30,7 @@ inside_rx =
     recorded_send rx.the_field.row _ _ rx.the_type.to_one
     (struct_send (shape rx.the_type) (
       search (sendable, crosses, table.the_send, table.the_sync, msg.the_send, option.the_send, heap.the_send) depth 12,
-      (search (sendable, take_side.the_field_send, seat.the_send, option.the_send, msg.the_send), (search sendable, tt)),
+      (search (sendable, take_side.the_field_send, seat.the_send, option.the_send, msg.the_send), (search sendable, (search sendable, tt))),
     ))
 
 pub rx_send : IsSend Rx.the_row

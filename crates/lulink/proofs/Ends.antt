@@ -14,10 +14,12 @@ use Rattle.lulink.specs.declared.receiver.Rx.TheInside as rx
 use Rattle.lulink.specs.declared.rule.EndState.{EndState}
 use Rattle.lulink.specs.declared.rule.Terms.{Terms}
 use Rattle.lulink.specs.declared.rule.Role.TheVariants.{Producer, Consumer}
+use Rattle.lulink.specs.declared.counts.Counts.{Counts}
+use Rattle.lulink.specs.Counts.{counted, showed, WentWell, AreCounts}
 use Rattle.lulink.specs.Words.{number, IsFinal, IsLastSeen, HasSeen, RestsOn}
 use Rattle.lulink.specs.Rings.{full_slots, free_slots, readied, IsLater, MovedTail, MovedHead, Looked}
 use Rattle.lulink.specs.Views.{SenderView, IsNextToPut, AreNextToPut, HasPutAll, IsRunTaken, IsWholeAtClose}
-use Rattle.lulink.specs.Seen.{PutOne, TookOne, OfferedRun, PolledRun}
+use Rattle.lulink.specs.Seen.{PutOne, TookOne, OfferedRun, PolledRun, put_ahead, put_behind, put_waits, take_waits}
 use Rattle.lulink.specs.Insides.{RingSeat, given_list, sender_view, receiver_view, IsSender, IsReceiver, IsRing, IsNewSeat, IsPutSide, IsTakeSide}
 use Rattle.lulink.proofs.Closing.{close_long}
 use Rattle.lulink.proofs.Parts.{take_next, element, take_run, at_drop, at_take}
@@ -160,25 +162,42 @@ module _ (at : TableId) (k : Terms) (s : TakeSide) (is : IsTakeSide at k s) wher
         listed = is.listed;
       }
 
-pub sender_moved : (t : tx.Inside) (side : PutSide) (w : ℕ) (x : Msg) → side.count ≡ t.side.count + 1 → RestsOn t.side.seat.me.0.seen w side.seat.me.0.seen → slice_get (given_list (arc_value t.ring).shared.key) t.side.count ≡ Some x
-    → PutOne x (sender_view t) w (sender_view record { ring = t.ring; side = side; link = t.link })
-sender_moved t side w x more rests next = let list = given_list (arc_value t.ring).shared.key in ((refl, refl, ap (λ n. take n list) more ∙ take_next list t.side.count x next, refl), refl, rests)
-
-pub receiver_moved : (t : rx.Inside) (side : TakeSide) (w : ℕ) (x : Msg) → side.count ≡ t.side.count + 1 → RestsOn t.side.seat.me.0.seen w side.seat.me.0.seen → slice_get (given_list (arc_value t.ring).shared.key) t.side.count ≡ Some x
-    → TookOne x (receiver_view t) w (receiver_view record { ring = t.ring; side = side; link = t.link })
-receiver_moved t side w x more rests next = let list = given_list (arc_value t.ring).shared.key in ((refl, refl, ap (λ n. take n list) more ∙ take_next list t.side.count x next, refl), refl, rests)
-
--- after a run
-pub sender_ran : (t : tx.Inside) (side : PutSide) (n : ℕ) (xs : List Msg) → side.count ≡ t.side.count + n → n ≤ length xs → ((k : ℕ) (x : Msg) → slice_get xs k ≡ Some x → slice_get (given_list (arc_value t.ring).shared.key) (t.side.count + k) ≡ Some x)
-    → HasPutAll (take n xs) (sender_view t) (sender_view record { ring = t.ring; side = side; link = t.link })
-sender_ran t side n xs more few next = let list = given_list (arc_value t.ring).shared.key in (refl, refl, ap (λ m. take m list) more ∙ take_run t.side.count n list xs few next, refl)
-
 -- how many messages contracts see
 pub put_length : (t : tx.Inside) → IsSender t → length (sender_view t).put ≡ t.side.count
 put_length t is = length-take-le t.side.count (given_list (arc_value t.ring).shared.key) is.side.begins
 
 pub taken_length : (t : rx.Inside) → IsReceiver t → length (receiver_view t).taken ≡ t.side.count
 taken_length t is = length-take-le t.side.count (given_list (arc_value t.ring).shared.key) is.side.begins
+
+-- what a try counts, by what contracts see
+sender_well : (t : tx.Inside) (w : ℕ) (after : List ℕ) (counts : Counts) → IsSender t → WentWell (t.side.count - number w) t.side.seat.me.0.seen w after t.counts counts → WentWell (put_ahead (sender_view t) w) t.side.seat.me.0.seen w after t.counts counts
+sender_well t w after counts is well = subst (λ n. WentWell (n - number w) t.side.seat.me.0.seen w after t.counts counts) (sym (put_length t is)) well
+
+receiver_well : (t : rx.Inside) (w : ℕ) (after : List ℕ) (counts : Counts) → IsReceiver t → WentWell (number w - t.side.count) t.side.seat.me.0.seen w after t.counts counts → WentWell (put_behind (receiver_view t) w) t.side.seat.me.0.seen w after t.counts counts
+receiver_well t w after counts is well = subst (λ n. WentWell (number w - n) t.side.seat.me.0.seen w after t.counts counts) (sym (taken_length t is)) well
+
+pub sender_waits : (t : tx.Inside) (w : ℕ) (counts : Counts) → IsSender t → counts ≡ counted t.side.count (showed (t.side.count - number w) t.counts) → counts ≡ (put_waits (sender_view t) w).counts
+sender_waits t w counts is e = e ∙ ap (λ n. counted n (showed (n - number w) t.counts)) (sym (put_length t is))
+
+pub receiver_waits : (t : rx.Inside) (w : ℕ) (counts : Counts) → IsReceiver t → counts ≡ counted t.side.count (showed (number w - t.side.count) t.counts) → counts ≡ (take_waits (receiver_view t) w).counts
+receiver_waits t w counts is e = e ∙ ap (λ n. counted n (showed (number w - n) t.counts)) (sym (taken_length t is))
+
+pub sender_moved : (t : tx.Inside) (side : PutSide) (counts : Counts) (w : ℕ) (x : Msg) → IsSender t → side.count ≡ t.side.count + 1 → RestsOn t.side.seat.me.0.seen w side.seat.me.0.seen → slice_get (given_list (arc_value t.ring).shared.key) t.side.count ≡ Some x
+    → WentWell (t.side.count - number w) t.side.seat.me.0.seen w side.seat.me.0.seen t.counts counts → PutOne x (sender_view t) w (sender_view record { ring = t.ring; side = side; link = t.link; counts = counts })
+sender_moved t side counts w x is more rests next well =
+    let list = given_list (arc_value t.ring).shared.key in
+    ((refl, refl, ap (λ n. take n list) more ∙ take_next list t.side.count x next, refl), refl, rests, sender_well t w side.seat.me.0.seen counts is well)
+
+pub receiver_moved : (t : rx.Inside) (side : TakeSide) (counts : Counts) (w : ℕ) (x : Msg) → IsReceiver t → side.count ≡ t.side.count + 1 → RestsOn t.side.seat.me.0.seen w side.seat.me.0.seen → slice_get (given_list (arc_value t.ring).shared.key) t.side.count ≡ Some x
+    → WentWell (number w - t.side.count) t.side.seat.me.0.seen w side.seat.me.0.seen t.counts counts → TookOne x (receiver_view t) w (receiver_view record { ring = t.ring; side = side; link = t.link; counts = counts })
+receiver_moved t side counts w x is more rests next well =
+    let list = given_list (arc_value t.ring).shared.key in
+    ((refl, refl, ap (λ n. take n list) more ∙ take_next list t.side.count x next, refl), refl, rests, receiver_well t w side.seat.me.0.seen counts is well)
+
+-- after a run
+pub sender_ran : (t : tx.Inside) (side : PutSide) (counts : Counts) (n : ℕ) (xs : List Msg) → side.count ≡ t.side.count + n → n ≤ length xs → ((k : ℕ) (x : Msg) → slice_get xs k ≡ Some x → slice_get (given_list (arc_value t.ring).shared.key) (t.side.count + k) ≡ Some x)
+    → HasPutAll (take n xs) (sender_view t) (sender_view record { ring = t.ring; side = side; link = t.link; counts = counts })
+sender_ran t side counts n xs more few next = let list = given_list (arc_value t.ring).shared.key in (refl, refl, ap (λ m. take m list) more ∙ take_run t.side.count n list xs few next, refl)
 
 -- the sides of a new ring
 pub new_put_side : (at : TableId) (k : Terms) (seat : RingSeat) → IsRing at k → IsNewSeat Producer at k seat → IsPutSide at k record { seat = seat; count = 0; slot = 0; word = 0; held = 0 }
@@ -223,10 +242,11 @@ new_take_side at k seat ring new =
     }
 
 -- what a run learns by the word
-pub sender_learned : (t : tx.Inside) (side : PutSide) (all n : ℕ) → IsSender t → IsPutSide (arc_value t.ring).shared.table_id (arc_value t.ring).shared.key side → side.count ≡ t.side.count + n → RestsOn t.side.seat.me.0.seen side.word side.seat.me.0.seen
+pub sender_learned : (t : tx.Inside) (side : PutSide) (counts : Counts) (all n : ℕ) → IsSender t → IsPutSide (arc_value t.ring).shared.table_id (arc_value t.ring).shared.key side → side.count ≡ t.side.count + n → RestsOn t.side.seat.me.0.seen side.word side.seat.me.0.seen
     → (n < all → HasSeen t.side.seat.me.0.seen side.word side.seat.me.0.seen × (side.count ≡ number side.word + (arc_value t.ring).shared.key.capacity)) → (all ≡ 0 → HasSeen t.side.seat.me.0.seen side.word side.seat.me.0.seen)
-    → OfferedRun all n (sender_view t) side.word (sender_view record { ring = t.ring; side = side; link = t.link })
-sender_learned t side all n is now more rests full look =
+    → (all ≡ 0 → counts ≡ t.counts) → (0 < n → WentWell (t.side.count - number side.word) t.side.seat.me.0.seen side.word side.seat.me.0.seen t.counts counts) → (0 < all → n ≡ 0 → counts ≡ counted t.side.count (showed (t.side.count - number side.word) t.counts))
+    → OfferedRun all n (sender_view t) side.word (sender_view record { ring = t.ring; side = side; link = t.link; counts = counts })
+sender_learned t side counts all n is now more rests full look idle well waits =
     let before = put_length t is in
     let room = now.room in
     record {
@@ -235,12 +255,16 @@ sender_learned t side all n is now more rests full look =
       room = omega arith;
       full = λ lt. let f = full lt in (f.0, length-take-le side.count (given_list (arc_value t.ring).shared.key) now.begins ∙ f.1);
       look = look;
+      idle = idle;
+      well = λ any. sender_well t side.word side.seat.me.0.seen counts is (well any);
+      waits = λ any none. sender_waits t side.word counts is (waits any none);
     }
 
-pub receiver_learned : (t : rx.Inside) (side : TakeSide) (most n : ℕ) → IsReceiver t → IsTakeSide (arc_value t.ring).shared.table_id (arc_value t.ring).shared.key side → side.count ≡ t.side.count + n → RestsOn t.side.seat.me.0.seen side.word side.seat.me.0.seen
+pub receiver_learned : (t : rx.Inside) (side : TakeSide) (counts : Counts) (most n : ℕ) → IsReceiver t → IsTakeSide (arc_value t.ring).shared.table_id (arc_value t.ring).shared.key side → side.count ≡ t.side.count + n → RestsOn t.side.seat.me.0.seen side.word side.seat.me.0.seen
     → (n < most → HasSeen t.side.seat.me.0.seen side.word side.seat.me.0.seen × (side.count ≡ number side.word)) → (most ≡ 0 → HasSeen t.side.seat.me.0.seen side.word side.seat.me.0.seen)
-    → PolledRun most n (receiver_view t) side.word (receiver_view record { ring = t.ring; side = side; link = t.link })
-receiver_learned t side most n is now more rests empty look =
+    → (most ≡ 0 → counts ≡ t.counts) → (0 < n → WentWell (number side.word - t.side.count) t.side.seat.me.0.seen side.word side.seat.me.0.seen t.counts counts) → (0 < most → n ≡ 0 → counts ≡ counted t.side.count (showed (number side.word - t.side.count) t.counts))
+    → PolledRun most n (receiver_view t) side.word (receiver_view record { ring = t.ring; side = side; link = t.link; counts = counts })
+receiver_learned t side counts most n is now more rests empty look idle well waits =
     let before = taken_length t is in
     let put = now.put in
     record {
@@ -249,12 +273,15 @@ receiver_learned t side most n is now more rests empty look =
       there = omega arith;
       empty = λ lt. let e = empty lt in (e.0, length-take-le side.count (given_list (arc_value t.ring).shared.key) now.begins ∙ e.1);
       look = look;
+      idle = idle;
+      well = λ any. receiver_well t side.word side.seat.me.0.seen counts is (well any);
+      waits = λ any none. receiver_waits t side.word counts is (waits any none);
     }
 
 -- what a run takes
-pub receiver_ran : (t : rx.Inside) (side : TakeSide) (n : ℕ) (before after : List Msg) → IsReceiver t → IsTakeSide (arc_value t.ring).shared.table_id (arc_value t.ring).shared.key side → side.count ≡ t.side.count + n
-    → after ≡ before ++ take n (drop t.side.count (given_list (arc_value t.ring).shared.key)) → IsRunTaken n before after (receiver_view t) (receiver_view record { ring = t.ring; side = side; link = t.link })
-receiver_ran t side n before after is now more into =
+pub receiver_ran : (t : rx.Inside) (side : TakeSide) (counts : Counts) (n : ℕ) (before after : List Msg) → IsReceiver t → IsTakeSide (arc_value t.ring).shared.table_id (arc_value t.ring).shared.key side → side.count ≡ t.side.count + n
+    → after ≡ before ++ take n (drop t.side.count (given_list (arc_value t.ring).shared.key)) → IsRunTaken n before after (receiver_view t) (receiver_view record { ring = t.ring; side = side; link = t.link; counts = counts })
+receiver_ran t side counts n before after is now more into =
     let list = given_list (arc_value t.ring).shared.key in
     let begins = now.begins in
     let left : length (drop t.side.count list) ≡ length list - t.side.count = length-drop t.side.count list in (
@@ -275,3 +302,7 @@ receiver_whole t is k x at closes =
     let within : k < length (take t.side.count list) = slice_get_within (take t.side.count list) k x at in
     let taken = taken_length t is in
     take_all t.side.count list (omega arith)
+
+-- what an end counts stays right as it goes on, and as a try of the next message counts
+pub counts_on : (passed n room : ℕ) (c : Counts) → AreCounts passed room c → AreCounts (passed + n) room c
+counts_on passed n room c is = let marked = is.marked in record { waited = is.waited; marked = omega arith; most = is.most }

@@ -134,12 +134,20 @@ module _ (room : ℕ) (list : List Msg) (some_room : 0 < room) (small : length l
       let num : number n ≡ r.c.count = ap number reported ∙ number_word r.c.count r.c.left (omega arith) in
       (omega arith, omega arith)
 
+  -- no more was taken than was put
+  head_put : (n : ℕ) (r : Running room list s) → n ≡ word r.c.count r.c.left → number n ≤ r.p.count
+  head_put n r reported =
+      let begins = r.begins in
+      let emptying = r.emptying in
+      let num : number n ≡ r.c.count = ap number reported ∙ number_word r.c.count r.c.left (omega arith) in
+      omega arith
+
   head_looks : (n : ℕ) (cs : Slots) (r : Running room list s) → n ≡ slice_index s.words head_at → n ≡ word r.c.count r.c.left → Goes room list s (r.p, cs) head_at n (λ m. Looked (r.p, cs) n m × IsFinal r.p.seen n) 0
   head_looks n cs r at reported = (looked r.p n, keeps, tt, head_seen n cs r at reported, ((refl, head_later n r reported), saw_final r.p.seen n r.c.count r.c.left reported r.p_saw))
 
   -- the producer found the ring full
   head_full : (n : ℕ) (cs : Slots) (r : Running room list s) → n ≡ slice_index s.words head_at → n ≡ word r.c.count r.c.left → r.p.count ≡ number n + r.p.room → Goes room list s (r.p, cs) head_at n (λ m. SawHead (r.p, cs) n m × IsFinal r.p.seen n) 0
-  head_full n cs r at reported full = (looked r.p n, keeps, tt, head_seen n cs r at reported, ((head_later n r reported, inl (full, refl)), saw_final r.p.seen n r.c.count r.c.left reported r.p_saw))
+  head_full n cs r at reported full = (looked r.p n, keeps, tt, head_seen n cs r at reported, ((head_later n r reported, inl (full, refl), head_put n r reported), saw_final r.p.seen n r.c.count r.c.left reported r.p_saw))
 
   -- the slots of all messages for which there is room, where the producer's own came back
   all_free : (r : Running room list s) → length s.homes ≡ room → (k : ℕ) → r.p.count ≤ k → k < r.c.count + room → get_elem? (with_back s.homes (free_slots room r.p.count r.p.held)) (k % room) ≡ some (some None)
@@ -195,7 +203,7 @@ module _ (room : ℕ) (list : List Msg) (some_room : 0 < room) (small : length l
             free = λ k lo hi. absurd (omega arith);
           },
         ),
-        ((head_later n r reported, inr (ne, λ i. (w, (passed_slots xs ys ∙ ap (λ m. free_slots m r.p.count more) (sym room_is)) i))), saw_final r.p.seen n r.c.count r.c.left reported r.p_saw),
+        ((head_later n r reported, inr (ne, λ i. (w, (passed_slots xs ys ∙ ap (λ m. free_slots m r.p.count more) (sym room_is)) i)), head_put n r reported), saw_final r.p.seen n r.c.count r.c.left reported r.p_saw),
       )
 
   -- the slots after the producer gave back its own, k of them with messages
@@ -316,12 +324,21 @@ module _ (room : ℕ) (list : List Msg) (some_room : 0 < room) (small : length l
       let num : number n ≡ r.p.count = ap number reported ∙ number_word r.p.count r.p.left (omega arith) in
       (omega arith, omega arith)
 
+  -- no more stands in the ring than there is room for
+  tail_room : (n : ℕ) (r : Running room list s) → n ≡ word r.p.count r.p.left → number n ≤ r.c.count + r.c.room
+  tail_room n r reported =
+      let begins = r.begins in
+      let filling = r.filling in
+      let cap = r.consumer.1 in
+      let num : number n ≡ r.p.count = ap number reported ∙ number_word r.p.count r.p.left (omega arith) in
+      omega arith
+
   tail_looks : (n : ℕ) (cs : Slots) (r : Running room list s) → n ≡ slice_index s.words tail_at → n ≡ word r.p.count r.p.left → Goes room list s (r.c, cs) tail_at n (λ m. Looked (r.c, cs) n m × IsFinal r.c.seen n) 1
   tail_looks n cs r at reported = (looked r.c n, keeps, tt, tail_seen n cs r at reported, ((refl, tail_later n r reported), saw_final r.c.seen n r.p.count r.p.left reported r.c_saw))
 
   -- the consumer found the ring empty
   tail_empty : (n : ℕ) (cs : Slots) (r : Running room list s) → n ≡ slice_index s.words tail_at → n ≡ word r.p.count r.p.left → r.c.count ≡ number n → Goes room list s (r.c, cs) tail_at n (λ m. SawTail (r.c, cs) n m × IsFinal r.c.seen n) 1
-  tail_empty n cs r at reported none = (looked r.c n, keeps, tt, tail_seen n cs r at reported, ((tail_later n r reported, inl (none, refl)), saw_final r.c.seen n r.p.count r.p.left reported r.c_saw))
+  tail_empty n cs r at reported none = (looked r.c n, keeps, tt, tail_seen n cs r at reported, ((tail_later n r reported, inl (none, refl), tail_room n r reported), saw_final r.c.seen n r.p.count r.p.left reported r.c_saw))
 
   -- the slots of all messages that were put, where the consumer's own came back
   all_stored : (r : Running room list s) → length s.homes ≡ room → (k : ℕ) → r.c.count ≤ k → k < r.p.count → get_elem? (with_back s.homes (full_slots list room r.c.count r.c.held)) (k % room) ≡ some (some (slice_get list k))
@@ -376,7 +393,7 @@ module _ (room : ℕ) (list : List Msg) (some_room : 0 < room) (small : length l
                 ∙ r.free k lo hi;
           },
         ),
-        ((tail_later n r reported, inr (ne, λ i. (w, (passed_slots xs ys ∙ (λ j. full_slots (sym r.consumer.2 j) (sym r.consumer.1 j) r.c.count more)) i))), saw_final r.c.seen n r.p.count r.p.left reported r.c_saw),
+        ((tail_later n r reported, inr (ne, λ i. (w, (passed_slots xs ys ∙ (λ j. full_slots (sym r.consumer.2 j) (sym r.consumer.1 j) r.c.count more)) i)), tail_room n r reported), saw_final r.c.seen n r.p.count r.p.left reported r.c_saw),
       )
 
   -- the slots after the consumer gave back its own, k of them free

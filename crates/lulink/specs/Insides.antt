@@ -5,6 +5,7 @@ use Rattle.std.specs.Arc.{arc_value}
 use Rattle.atomic_table.specs.Seated.{TableId}
 use Rattle.atomic_table.specs.declared.shared.Seat.{Seat}
 use Rattle.luflow.specs.declared.message.Msg.{Msg}
+use Rattle.lulink.specs.declared.counts.Counts.{Counts}
 use Rattle.lulink.specs.declared.put_side.PutSide.{PutSide}
 use Rattle.lulink.specs.declared.take_side.TakeSide.{TakeSide}
 use Rattle.lulink.specs.declared.sender.Tx.TheInside as tx
@@ -15,6 +16,7 @@ use Rattle.lulink.specs.declared.rule.Role.{Role}
 use Rattle.lulink.specs.declared.rule.Role.TheVariants.{Producer, Consumer}
 use Rattle.lulink.specs.Lists.{list_of}
 use Rattle.lulink.specs.Words.{number, IsFinal, IsLastSeen, HasSeen, RestsOn, words_of}
+use Rattle.lulink.specs.Counts.{AreCounts, WentWell, counted, showed}
 use Rattle.lulink.specs.Rings.{IsEnd, full_slots, free_slots, fresh, seated}
 use Rattle.lulink.specs.Views.{SenderView, ReceiverView}
 
@@ -92,6 +94,11 @@ SoughtMessage s true t = (t.count ≡ s.count) × RestsOn s.seat.me.0.seen t.wor
 SoughtMessage s false t = (t.count ≡ s.count) × HasSeen s.seat.me.0.seen t.word t.seat.me.0.seen
     × (s.count ≡ number t.word) × IsFinal s.seat.me.0.seen t.word
 
+-- what a try of the next message counts, by how many were in the link as the word shows
+abbrev pub CountedTry : Bool → ℕ → ℕ → List ℕ → ℕ → List ℕ → Counts → Counts → Type 0
+CountedTry true n there before w after c d = WentWell there before w after c d
+CountedTry false n there before w after c d = d ≡ counted n (showed there c)
+
 -- the first so many slots that are held have what they are given back with, and stand behind the others
 abbrev pub HasFilled : Terms → PutSide → ℕ → PutSide → Type 0
 HasFilled k s n t = (t.seat.table_id ≡ s.seat.table_id) × (t.slot ≡ (s.count + n) % k.capacity)
@@ -119,6 +126,7 @@ sender_view t = let k = (arc_value t.ring).shared.key in record {
   ring = (arc_value t.ring).shared.table_id;
   put = take t.side.count (given_list k);
   seen = t.side.seat.me.0.seen;
+  counts = t.counts;
 }
 
 abbrev pub receiver_view : rx.Inside → ReceiverView
@@ -129,12 +137,15 @@ receiver_view t = let k = (arc_value t.ring).shared.key in record {
   ring = (arc_value t.ring).shared.table_id;
   taken = take t.side.count (given_list k);
   seen = t.side.seat.me.0.seen;
+  counts = t.counts;
 }
 
 pub record IsSender (t : tx.Inside) : Type 0 where
   pub number : t.link ≡ (arc_value t.ring).shared.key.link
   pub side : IsPutSide (arc_value t.ring).shared.table_id (arc_value t.ring).shared.key t.side
+  pub counts : AreCounts t.side.count (arc_value t.ring).shared.key.capacity t.counts
 
 pub record IsReceiver (t : rx.Inside) : Type 0 where
   pub number : t.link ≡ (arc_value t.ring).shared.key.link
   pub side : IsTakeSide (arc_value t.ring).shared.table_id (arc_value t.ring).shared.key t.side
+  pub counts : AreCounts t.side.count (arc_value t.ring).shared.key.capacity t.counts

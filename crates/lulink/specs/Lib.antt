@@ -1,4 +1,5 @@
 pub mod Words
+pub mod Counts
 pub mod Lists
 pub mod Rings
 pub mod Views

@@ -133,7 +133,8 @@ IsLater v n = (number v.last ≤ number n) × (number n ≤ length v.list)
 abbrev pub Looked : Me (Option Msg) EndState → ℕ → Me (Option Msg) EndState → Type 0
 Looked m n w = (w ≡ (looked m.0 n, m.1)) × IsLater m.0 n
 
--- the ring was full, or the producer has the slots of as many messages as there is room for
+-- The ring was full, or the producer has the slots of as many messages as there is room for. No more was
+-- taken than was put.
 abbrev pub SawHead : Me (Option Msg) EndState → ℕ → Me (Option Msg) EndState → Type 0
 SawHead m n w = IsLater m.0 n × (((m.0.count ≡ number n + m.0.room) × (w ≡ (looked m.0 n, m.1)))
     ⊎ ((m.0.count < number n + m.0.room)
@@ -141,9 +142,10 @@ SawHead m n w = IsLater m.0 n × (((m.0.count ≡ number n + m.0.room) × (w ≡
       readied m.0 n (number n + m.0.room - m.0.count),
       free_slots m.0.room m.0.count
           (number n + m.0.room - m.0.count),
-    ))))
+    )))) × (number n ≤ m.0.count)
 
--- the ring was empty, or the consumer has the slots of all messages that were put
+-- The ring was empty, or the consumer has the slots of all messages that were put, which are no more than
+-- there is room for.
 abbrev pub SawTail : Me (Option Msg) EndState → ℕ → Me (Option Msg) EndState → Type 0
 SawTail m n w = IsLater m.0 n × (((m.0.count ≡ number n) × (w ≡ (looked m.0 n, m.1)))
     ⊎ ((m.0.count < number n)
@@ -151,7 +153,7 @@ SawTail m n w = IsLater m.0 n × (((m.0.count ≡ number n) × (w ≡ (looked m.
       readied m.0 n (number n - m.0.count),
       full_slots m.0.list m.0.room m.0.count
           (number n - m.0.count),
-    ))))
+    )))) × (number n ≤ m.0.count + m.0.room)
 
 -- the slots of the next k messages went back and the producer's count went up; it has those behind them still
 abbrev pub MovedTail : EndState → ℕ → Me (Option Msg) EndState → Type 0

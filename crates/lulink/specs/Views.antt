@@ -5,12 +5,13 @@ use Rattle.atomic_table.specs.Seated.{TableId}
 use Rattle.luflow.specs.declared.message.Msg.{Msg}
 use Rattle.luflow.specs.declared.message.Body.TheVariants.{Close}
 use Rattle.luworld.specs.Jobs.{JobView}
+use Rattle.lulink.specs.declared.counts.Counts.{Counts}
 use Rattle.lulink.specs.declared.sender.Offer.{Offer}
 use Rattle.lulink.specs.declared.sender.Offer.TheVariants.{Done, Full}
 use Rattle.lulink.specs.Lists.{list_of, IsNextOf}
 
--- The run, the link, the capacity, which ring the end is of, what was put, and the words of the receiver's
--- that the loads of this end gave, one for each load.
+-- The run, the link, the capacity, which ring the end is of, what was put, the words of the receiver's that
+-- the loads of this end gave, one for each load, and what it counted at them.
 pub record SenderView : Type 0 where
   pub job : JobView
   pub link : ℕ
@@ -18,9 +19,10 @@ pub record SenderView : Type 0 where
   pub ring : TableId
   pub put : List Msg
   pub seen : List ℕ
+  pub counts : Counts
 
--- The run, the link, the capacity, which ring the end is of, what was taken, and the words of the sender's
--- that the loads of this end gave, one for each load.
+-- The run, the link, the capacity, which ring the end is of, what was taken, the words of the sender's that
+-- the loads of this end gave, one for each load, and what it counted at them.
 pub record ReceiverView : Type 0 where
   pub job : JobView
   pub link : ℕ
@@ -28,6 +30,7 @@ pub record ReceiverView : Type 0 where
   pub ring : TableId
   pub taken : List Msg
   pub seen : List ℕ
+  pub counts : Counts
 
 -- the two ends of one ring
 abbrev pub AreOfOneRing : SenderView → ReceiverView → Type 0

@@ -5,9 +5,11 @@
 //! - [`open_link`], [`LinkError`]: both ends of a link.
 //! - [`Tx`], [`Offer`], [`PutError`]: the sender's end.
 //! - [`Rx`], [`TakeError`]: the receiver's end.
+//! - [`Tally`], [`EndTally`], [`End`]: what an end says of its messages so far.
 //! - [`laws`]: what the rule of a link's ring says.
 #![tactic(auto)]
 
+mod counts;
 pub mod laws;
 mod opening;
 mod put_side;
@@ -17,6 +19,7 @@ mod sender;
 mod take_side;
 mod word;
 
+pub use counts::{End, EndTally, Tally};
 pub use luflow::{Body, Datum, Msg};
 pub use opening::{LinkError, LinkNo, open_link};
 pub use receiver::{Rx, TakeError};

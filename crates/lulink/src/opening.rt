@@ -6,6 +6,7 @@ ghost use Rattle.lulink.specs.declared.opening.LinkError.TheVariants.{OutOfMemor
 ghost use Rattle.lulink.specs.declared.rule.Role.TheVariants.{Producer, Consumer};
 ghost use Rattle.lulink.specs.Insides.{IsRing, IsNewSeat};
 ghost use Rattle.lulink.specs.Views.{AreOfOneRing};
+ghost use Rattle.lulink.specs.Counts.{uncounted};
 
 use crate::receiver::Rx;
 use crate::rule::{Ring, RingSeat, Terms, TwoEnds};
@@ -60,6 +61,8 @@ pub fn open_link(
         (λ ends. (ends.0.capacity ≡ capacity) × (ends.1.capacity ≡ capacity)) }
     ensures unseen { IfOk result (λ ends. (ends.0.seen ≡ []) × (ends.1.seen ≡ [])) }
     ensures ring { IfOk result (λ ends. AreOfOneRing ends.0 ends.1) }
+    ensures counts { IfOk result
+        (λ ends. (ends.0.counts ≡ uncounted) × (ends.1.counts ≡ uncounted)) }
 {
     let (ring, seat, other) = new_ring(alloc, job, link, capacity)?;
     let shared = Arc::try_clone(&ring)?;

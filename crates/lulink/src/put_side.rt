@@ -1,11 +1,13 @@
 //! The producer's side of a ring. Between two calls it may already have the slots of its next messages, so that it needs no look
 //! at the consumer's word as long as the one that it loaded last shows room.
 
-ghost use Rattle.std.specs.Prelude.{◌≡◌, ◌+◌, ◌<◌, ◌≤◌, ◌%◌, [], ◌∷◌, ◌++◌, length, Option, Some, slice_get};
+ghost use Rattle.std.specs.Prelude.{◌≡◌, ◌+◌, ◌-◌, ◌<◌, ◌≤◌, ◌%◌, [], ◌∷◌, ◌++◌, length, Option, Some, slice_get};
 ghost use Rattle.atomic_table.specs.Table.{rest};
 ghost use Rattle.lulink.specs.Words.{number, has_left, IsFinal, HasSeen, RestsOn};
-ghost use Rattle.lulink.specs.Insides.{given_list, AreGivenMessages, IsPutSide, SoughtRoom, HasFilled};
+ghost use Rattle.lulink.specs.Insides.{given_list, AreGivenMessages, IsPutSide, SoughtRoom, HasFilled, CountedTry};
+ghost use Rattle.lulink.specs.Counts.{AreCounts, WentWell, counted, showed};
 
+use crate::counts::Counts;
 use crate::rule::{Leave, LoadHead, Look, Ring, RingSeat, StoreTail};
 use crate::word::{HEAD, TAIL, TOP, next_slot, number_of, says_gone};
 use luflow::Msg;
@@ -25,24 +27,32 @@ pub struct PutSide {
 
 impl PutSide {
     /// Whether there is room for the next message. Loads the head where the seat has no slot.
-    pub(crate) fn has_room(&mut self, ring: &Ring) -> bool
-        requires { IsPutSide ring.now.shared.table_id ring.now.shared.key self.old }
+    pub(crate) fn has_room(&mut self, ring: &Ring, counts: &mut Counts) -> bool
+        requires side { IsPutSide ring.now.shared.table_id ring.now.shared.key self.old }
+        requires counts { AreCounts self.old.count ring.now.shared.key.capacity counts.old }
         ensures side { IsPutSide ring.now.shared.table_id ring.now.shared.key self.new }
         ensures sought { SoughtRoom ring.now.shared.key self.old result self.new }
+        ensures counts { AreCounts self.new.count ring.now.shared.key.capacity counts.new }
+        ensures counted { CountedTry result self.old.count (self.old.count - number self.new.word)
+            self.old.seat.me.0.seen self.new.word self.new.seat.me.0.seen counts.old counts.new }
     {
-        self.has_room_for(ring, 1)
+        self.has_room_for(ring, 1, counts)
     }
 
     /// Whether there is room for the next message. Loads the head where the seat has fewer slots than this.
-    fn has_room_for(&mut self, ring: &Ring, wanted: u64) -> bool
+    fn has_room_for(&mut self, ring: &Ring, wanted: u64, counts: &mut Counts) -> bool
         requires side { IsPutSide ring.now.shared.table_id ring.now.shared.key self.old }
         requires some { 0 < wanted }
+        requires counts { AreCounts self.old.count ring.now.shared.key.capacity counts.old }
         ensures side { IsPutSide ring.now.shared.table_id ring.now.shared.key self.new }
         ensures sought { SoughtRoom ring.now.shared.key self.old result self.new }
         ensures all { self.new.held < wanted
             → self.new.count + self.new.held ≡ number self.new.word + ring.now.shared.key.capacity }
         ensures loaded { self.new.held < wanted
             → HasSeen self.old.seat.me.0.seen self.new.word self.new.seat.me.0.seen }
+        ensures counts { AreCounts self.new.count ring.now.shared.key.capacity counts.new }
+        ensures counted { CountedTry result self.old.count (self.old.count - number self.new.word)
+            self.old.seat.me.0.seen self.new.word self.new.seat.me.0.seen counts.old counts.new }
     {
         if self.held >= wanted {
             return true;
@@ -50,7 +60,9 @@ impl PutSide {
         let room = ring.slot_count();
         let word = ring.shared.load::<LoadHead>(&mut self.seat, HEAD);
         self.word = word;
+        counts.show(self.count - number_of(word));
         if self.count == number_of(word) + room as u64 {
+            counts.wait(self.count);
             return false;
         }
         self.held = number_of(word) + room as u64 - self.count;
@@ -77,8 +89,9 @@ impl PutSide {
     }
 
     /// Puts as many of the messages as there is room for, and counts them with one store. How many.
-    pub(crate) fn put_run(&mut self, ring: &Ring, msgs: &[Msg]) -> usize
+    pub(crate) fn put_run(&mut self, ring: &Ring, msgs: &[Msg], counts: &mut Counts) -> usize
         requires side { IsPutSide ring.now.shared.table_id ring.now.shared.key self.old }
+        requires counts { AreCounts self.old.count ring.now.shared.key.capacity counts.old }
         requires next { AreGivenMessages ring.now.shared.key self.old.count msgs.now }
         ensures side { IsPutSide ring.now.shared.table_id ring.now.shared.key self.new }
         ensures within { result ≤ length msgs.now }
@@ -91,12 +104,18 @@ impl PutSide {
         ensures look { length msgs.now ≡ 0
             → HasSeen self.old.seat.me.0.seen self.new.word self.new.seat.me.0.seen }
         ensures last { IsFinal self.old.seat.me.0.seen self.new.word }
+        ensures counts { AreCounts self.new.count ring.now.shared.key.capacity counts.new }
+        ensures idle { length msgs.now ≡ 0 → counts.new ≡ counts.old }
+        ensures well { 0 < result → WentWell (self.old.count - number self.new.word)
+            self.old.seat.me.0.seen self.new.word self.new.seat.me.0.seen counts.old counts.new }
+        ensures waits { 0 < length msgs.now → result ≡ 0 → counts.new
+            ≡ counted self.old.count (showed (self.old.count - number self.new.word) counts.old) }
     {
         if msgs.is_empty() {
             let _gone = self.sees_gone(ring);
             return 0;
         }
-        if !self.has_room_for(ring, msgs.len() as u64) {
+        if !self.has_room_for(ring, msgs.len() as u64, counts) {
             return 0;
         }
         let fit = if self.held < msgs.len() as u64 {

@@ -5,11 +5,13 @@ ghost use Rattle.std.specs.Arc.{arc_value};
 ghost use Rattle.luworld.specs.WorldViews.{IsPrefixOf};
 ghost use Rattle.lulink.specs.Lists.{list_of};
 ghost use Rattle.lulink.specs.Words.{has_left, IsFinal};
+ghost use Rattle.lulink.specs.Counts.{uncounted, CountsOnce};
 ghost use Rattle.lulink.specs.Views.{IsNextToTake, IsWholeAt, IsWholeAtClose, IsRunTaken, HasTaken, HasTakenNothing, TakenOrNot};
 ghost use Rattle.lulink.specs.declared.rule.Role.TheVariants.{Consumer};
 ghost use Rattle.lulink.specs.Insides.{IsRing, IsNewSeat};
 ghost use Rattle.lulink.specs.Seen.{took_none, Polled, PolledRun, FoundOne, FoundNothingLeft};
 
+use crate::counts::{Counts, End, EndTally, Tally};
 use crate::opening::LinkNo;
 use crate::rule::{Ring, RingSeat};
 use crate::take_side::TakeSide;
@@ -25,12 +27,13 @@ pub enum TakeError {
     Gone,
 }
 
-/// The receiver's end. A contract sees its job and link, the capacity, which ring it is of, what was taken, and the sender's
-/// words that its loads gave. An end that is dropped leaves.
+/// The receiver's end. A contract sees its job and link, the capacity, which ring it is of, what was taken, the sender's
+/// words that its loads gave, and what it counted at them. An end that is dropped leaves.
 pub struct Rx {
     pub(crate) ring: Arc<Ring>,
     pub(crate) side: TakeSide,
     pub(crate) link: LinkNo,
+    pub(crate) counts: Counts,
 }
 
 impl Model for Rx {
@@ -58,6 +61,7 @@ impl Rx {
         ensures ring { result.ring ≡ (arc_value ring).shared.table_id }
         ensures taken { result.taken ≡ [] }
         ensures seen { result.seen ≡ [] }
+        ensures counts { result.counts ≡ uncounted }
     {
         Rx {
             ring,
@@ -69,6 +73,7 @@ impl Rx {
                 held: 0,
             },
             link,
+            counts: Counts::new(),
         }
     }
 
@@ -88,7 +93,7 @@ impl Rx {
         ensures seen { (w : ℕ) × Polled result self.old w self.new × IsFinal self.old.seen w }
     {
         let ring = &*self.ring;
-        if !self.side.has_message(ring) {
+        if !self.side.has_message(ring, &mut self.counts) {
             return None;
         }
         self.side.take(ring)
@@ -107,7 +112,7 @@ impl Rx {
         ensures buffer { vec_capacity into.new ≡ vec_capacity into.old }
     {
         let ring = &*self.ring;
-        self.side.take_run(ring, most, into)
+        self.side.take_run(ring, most, into, &mut self.counts)
     }
 
     /// Whether the sender has left. Never waits, and takes no memory.
@@ -128,6 +133,7 @@ impl Rx {
         ensures gone { IfErr result (λ _. HasTakenNothing self.old self.new) }
         ensures one { IfOk result (λ _. FoundOne self.old self.new) }
         ensures none { IfErr result (λ _. FoundNothingLeft self.old self.new) }
+        ensures counts { CountsOnce (length self.old.taken) self.old.counts self.new.counts }
     {
         let mut tries = 0;
         for _ in rt.forever() {
@@ -143,6 +149,39 @@ impl Rx {
             tries = pause(tries);
         }
         unreachable!()
+    }
+
+    /// How many messages were taken, how many found the link empty, and how many were in it at most, by this end's looks. Takes
+    /// no memory.
+    pub fn tally(&self) -> Tally
+        ensures passed { result.passed ≡ length self.now.taken }
+        ensures waited { result.waited ≡ self.now.counts.waited }
+        ensures few { result.waited ≤ length self.now.taken + 1 }
+        ensures most { result.most ≡ self.now.counts.most }
+        ensures room { result.most ≤ self.now.capacity }
+    {
+        Tally {
+            passed: self.side.count,
+            waited: self.counts.waited,
+            most: self.counts.most,
+        }
+    }
+
+    /// The same, with which end of which link this is. Takes no memory.
+    pub fn end_tally(&self) -> EndTally
+        ensures link { result.link ≡ self.now.link }
+        ensures end { result.end ≡ End.Receiver }
+        ensures passed { result.tally.passed ≡ length self.now.taken }
+        ensures waited { result.tally.waited ≡ self.now.counts.waited }
+        ensures few { result.tally.waited ≤ length self.now.taken + 1 }
+        ensures most { result.tally.most ≡ self.now.counts.most }
+        ensures room { result.tally.most ≤ self.now.capacity }
+    {
+        EndTally {
+            link: self.link(),
+            end: End::Receiver,
+            tally: self.tally(),
+        }
     }
 
     /// What was taken is a prefix of the link's list.
@@ -162,6 +201,7 @@ impl Drop for Rx {
             ring,
             mut side,
             link: _,
+            counts: _,
         } = self;
         let ring = &*ring;
         side.leave(ring);

@@ -1,15 +1,17 @@
 //! The sender's end.
 
-ghost use Rattle.std.specs.Prelude.{◌≡◌, ◌≤◌, ℕ, [], length, take, IfOk, IfErr};
+ghost use Rattle.std.specs.Prelude.{◌≡◌, ◌+◌, ◌≤◌, ℕ, [], length, take, IfOk, IfErr};
 ghost use Rattle.std.specs.Arc.{arc_value};
 ghost use Rattle.luworld.specs.WorldViews.{IsPrefixOf};
 ghost use Rattle.lulink.specs.Lists.{list_of};
 ghost use Rattle.lulink.specs.Words.{has_left, IsFinal};
+ghost use Rattle.lulink.specs.Counts.{uncounted, CountsOnce};
 ghost use Rattle.lulink.specs.Views.{IsNextToPut, AreNextToPut, HasPut, HasPutAll, HasPutNothing, PutOrBack};
 ghost use Rattle.lulink.specs.declared.rule.Role.TheVariants.{Producer};
 ghost use Rattle.lulink.specs.Insides.{IsRing, IsNewSeat};
 ghost use Rattle.lulink.specs.Seen.{put_none, Offered, OfferedRun, FoundRoom, FoundFullAndGone};
 
+use crate::counts::{Counts, End, EndTally, Tally};
 use crate::opening::LinkNo;
 use crate::put_side::PutSide;
 use crate::rule::{Ring, RingSeat};
@@ -32,12 +34,13 @@ pub enum PutError {
     Gone(Msg),
 }
 
-/// The sender's end. A contract sees its job and link, the capacity, which ring it is of, what was put, and the receiver's
-/// words that its loads gave. An end that is dropped leaves.
+/// The sender's end. A contract sees its job and link, the capacity, which ring it is of, what was put, the receiver's
+/// words that its loads gave, and what it counted at them. An end that is dropped leaves.
 pub struct Tx {
     pub(crate) ring: Arc<Ring>,
     pub(crate) side: PutSide,
     pub(crate) link: LinkNo,
+    pub(crate) counts: Counts,
 }
 
 impl Model for Tx {
@@ -65,6 +68,7 @@ impl Tx {
         ensures ring { result.ring ≡ (arc_value ring).shared.table_id }
         ensures put { result.put ≡ [] }
         ensures seen { result.seen ≡ [] }
+        ensures counts { result.counts ≡ uncounted }
     {
         Tx {
             ring,
@@ -76,6 +80,7 @@ impl Tx {
                 held: 0,
             },
             link,
+            counts: Counts::new(),
         }
     }
 
@@ -95,7 +100,7 @@ impl Tx {
         ensures seen { (w : ℕ) × Offered result msg self.old w self.new × IsFinal self.old.seen w }
     {
         let ring = &*self.ring;
-        if !self.side.has_room(ring) {
+        if !self.side.has_room(ring, &mut self.counts) {
             return Offer::Full(msg);
         }
         self.side.put(ring, msg);
@@ -114,7 +119,7 @@ impl Tx {
             × IsFinal self.old.seen w }
     {
         let ring = &*self.ring;
-        self.side.put_run(ring, msgs)
+        self.side.put_run(ring, msgs, &mut self.counts)
     }
 
     /// Whether the receiver has left. Never waits, and takes no memory.
@@ -138,6 +143,7 @@ impl Tx {
             (λ e. (e ≡ PutError.Gone msg) × HasPutNothing self.old self.new) }
         ensures room { IfOk result (λ _. FoundRoom self.old self.new) }
         ensures full { IfErr result (λ _. FoundFullAndGone self.old self.new) }
+        ensures counts { CountsOnce (length self.old.put) self.old.counts self.new.counts }
     {
         let mut tries = 0;
         for _ in rt.forever() {
@@ -152,6 +158,39 @@ impl Tx {
             tries = pause(tries);
         }
         unreachable!()
+    }
+
+    /// How many messages were put, how many found the link full, and how many were in it at most, by this end's looks. Takes no
+    /// memory.
+    pub fn tally(&self) -> Tally
+        ensures passed { result.passed ≡ length self.now.put }
+        ensures waited { result.waited ≡ self.now.counts.waited }
+        ensures few { result.waited ≤ length self.now.put + 1 }
+        ensures most { result.most ≡ self.now.counts.most }
+        ensures room { result.most ≤ self.now.capacity }
+    {
+        Tally {
+            passed: self.side.count,
+            waited: self.counts.waited,
+            most: self.counts.most,
+        }
+    }
+
+    /// The same, with which end of which link this is. Takes no memory.
+    pub fn end_tally(&self) -> EndTally
+        ensures link { result.link ≡ self.now.link }
+        ensures end { result.end ≡ End.Sender }
+        ensures passed { result.tally.passed ≡ length self.now.put }
+        ensures waited { result.tally.waited ≡ self.now.counts.waited }
+        ensures few { result.tally.waited ≤ length self.now.put + 1 }
+        ensures most { result.tally.most ≡ self.now.counts.most }
+        ensures room { result.tally.most ≤ self.now.capacity }
+    {
+        EndTally {
+            link: self.link(),
+            end: End::Sender,
+            tally: self.tally(),
+        }
     }
 
     /// What was put is a prefix of the link's list.
@@ -171,6 +210,7 @@ impl Drop for Tx {
             ring,
             mut side,
             link: _,
+            counts: _,
         } = self;
         let ring = &*ring;
         side.leave(ring);

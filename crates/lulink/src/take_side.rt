@@ -1,11 +1,13 @@
 //! The consumer's side of a ring. Between two calls it may already have the slots of its next messages, so that it needs no look
 //! at the producer's word as long as the one that it loaded last shows a message.
 
-ghost use Rattle.std.specs.Prelude.{◌≡◌, ℕ, ◌+◌, ◌<◌, ◌≤◌, ◌%◌, [], ◌∷◌, ◌++◌, length, take, drop, Option, Some, None, slice_get, vec_capacity};
+ghost use Rattle.std.specs.Prelude.{◌≡◌, ℕ, ◌+◌, ◌-◌, ◌<◌, ◌≤◌, ◌%◌, [], ◌∷◌, ◌++◌, length, take, drop, Option, Some, None, slice_get, vec_capacity};
 ghost use Rattle.atomic_table.specs.Table.{rest};
 ghost use Rattle.lulink.specs.Words.{number, has_left, IsFinal, HasSeen, RestsOn};
-ghost use Rattle.lulink.specs.Insides.{given_list, IsTakeSide, SoughtMessage, HasEmptied};
+ghost use Rattle.lulink.specs.Insides.{given_list, IsTakeSide, SoughtMessage, HasEmptied, CountedTry};
+ghost use Rattle.lulink.specs.Counts.{AreCounts, WentWell, counted, showed};
 
+use crate::counts::Counts;
 use crate::rule::{Leave, LoadTail, Look, Ring, RingSeat, StoreHead};
 use crate::word::{HEAD, TAIL, TOP, next_slot, number_of, says_gone};
 use luflow::Msg;
@@ -25,31 +27,41 @@ pub struct TakeSide {
 
 impl TakeSide {
     /// Whether the next message is there. Loads the tail where the seat has no slot.
-    pub(crate) fn has_message(&mut self, ring: &Ring) -> bool
-        requires { IsTakeSide ring.now.shared.table_id ring.now.shared.key self.old }
+    pub(crate) fn has_message(&mut self, ring: &Ring, counts: &mut Counts) -> bool
+        requires side { IsTakeSide ring.now.shared.table_id ring.now.shared.key self.old }
+        requires counts { AreCounts self.old.count ring.now.shared.key.capacity counts.old }
         ensures side { IsTakeSide ring.now.shared.table_id ring.now.shared.key self.new }
         ensures sought { SoughtMessage self.old result self.new }
+        ensures counts { AreCounts self.new.count ring.now.shared.key.capacity counts.new }
+        ensures counted { CountedTry result self.old.count (number self.new.word - self.old.count)
+            self.old.seat.me.0.seen self.new.word self.new.seat.me.0.seen counts.old counts.new }
     {
-        self.has_messages(ring, 1)
+        self.has_messages(ring, 1, counts)
     }
 
     /// Whether the next message is there. Loads the tail where the seat has fewer slots than this.
-    fn has_messages(&mut self, ring: &Ring, wanted: u64) -> bool
+    fn has_messages(&mut self, ring: &Ring, wanted: u64, counts: &mut Counts) -> bool
         requires side { IsTakeSide ring.now.shared.table_id ring.now.shared.key self.old }
         requires some { 0 < wanted }
+        requires counts { AreCounts self.old.count ring.now.shared.key.capacity counts.old }
         ensures side { IsTakeSide ring.now.shared.table_id ring.now.shared.key self.new }
         ensures sought { SoughtMessage self.old result self.new }
         ensures all { self.new.held < wanted
             → self.new.count + self.new.held ≡ number self.new.word }
         ensures loaded { self.new.held < wanted
             → HasSeen self.old.seat.me.0.seen self.new.word self.new.seat.me.0.seen }
+        ensures counts { AreCounts self.new.count ring.now.shared.key.capacity counts.new }
+        ensures counted { CountedTry result self.old.count (number self.new.word - self.old.count)
+            self.old.seat.me.0.seen self.new.word self.new.seat.me.0.seen counts.old counts.new }
     {
         if self.held >= wanted {
             return true;
         }
         let word = ring.shared.load::<LoadTail>(&mut self.seat, TAIL);
         self.word = word;
+        counts.show(number_of(word) - self.count);
         if self.count == number_of(word) {
+            counts.wait(self.count);
             return false;
         }
         self.held = number_of(word) - self.count;
@@ -77,8 +89,15 @@ impl TakeSide {
     }
 
     /// Takes as many messages as are there and as are wanted, and counts them with one store. How many.
-    pub(crate) fn take_run(&mut self, ring: &Ring, most: usize, into: &mut Vec<Msg>) -> usize
+    pub(crate) fn take_run(
+        &mut self,
+        ring: &Ring,
+        most: usize,
+        into: &mut Vec<Msg>,
+        counts: &mut Counts,
+    ) -> usize
         requires side { IsTakeSide ring.now.shared.table_id ring.now.shared.key self.old }
+        requires counts { AreCounts self.old.count ring.now.shared.key.capacity counts.old }
         requires spare { length into.old.items + most ≤ vec_capacity into.old }
         ensures side { IsTakeSide ring.now.shared.table_id ring.now.shared.key self.new }
         ensures within { result ≤ most }
@@ -93,12 +112,18 @@ impl TakeSide {
         ensures look { most ≡ 0
             → HasSeen self.old.seat.me.0.seen self.new.word self.new.seat.me.0.seen }
         ensures last { IsFinal self.old.seat.me.0.seen self.new.word }
+        ensures counts { AreCounts self.new.count ring.now.shared.key.capacity counts.new }
+        ensures idle { most ≡ 0 → counts.new ≡ counts.old }
+        ensures well { 0 < result → WentWell (number self.new.word - self.old.count)
+            self.old.seat.me.0.seen self.new.word self.new.seat.me.0.seen counts.old counts.new }
+        ensures waits { 0 < most → result ≡ 0 → counts.new
+            ≡ counted self.old.count (showed (number self.new.word - self.old.count) counts.old) }
     {
         if most == 0 {
             let _gone = self.sees_gone(ring);
             return 0;
         }
-        if !self.has_messages(ring, most as u64) {
+        if !self.has_messages(ring, most as u64, counts) {
             return 0;
         }
         let there = if self.held < most as u64 {

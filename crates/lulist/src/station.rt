@@ -1,6 +1,6 @@
 //! One site that goes through its flows once an instant, over the ends of its links.
 
-ghost use Rattle.std.specs.Prelude.{◌≡◌, ◌<◌, ℕ, [], All, IfOk, IfSome, Some, slice_get};
+ghost use Rattle.std.specs.Prelude.{◌≡◌, ◌+◌, ◌<◌, ◌≤◌, ℕ, [], All, IfOk, IfSome, Some, slice_get};
 ghost use Rattle.std.specs.Arc.{arc_value};
 ghost use Rattle.luworld.specs.Needs.{sites_of};
 ghost use Rattle.lulink.specs.Views.{SenderView, ReceiverView};
@@ -14,7 +14,7 @@ use crate::tried::Tried;
 use lublock_site::report::RowReport;
 use lublock_site::station::Went;
 use luflow::{Flat, Status};
-use lulink::{Rx, Tx};
+use lulink::{EndTally, Rx, Tx};
 use luplace::Job;
 use std::alloc::{AllocError, Global};
 use std::marker::Model;
@@ -140,6 +140,29 @@ impl ListStation {
     /// The instant at which the site stands, from 0; behind the last one the number of instants. Takes no memory.
     pub fn instant(&self) -> u32 {
         self.inner.t
+    }
+
+    /// How many ends of links the site has. Takes no memory.
+    pub fn end_count(&self) -> usize {
+        self.inner
+            .outlets
+            .len()
+            .saturating_add(self.inner.sources.len())
+    }
+
+    /// What the end of this place has counted, from 0 on: first the sending ends, then the receiving ones. None where there is no
+    /// such end. Takes no memory.
+    pub fn end(&self, place: usize) -> Option<EndTally>
+        ensures { IfSome result (λ e. e.tally.waited ≤ e.tally.passed + 1) }
+    {
+        match self.inner.outlets.as_slice().get(place) {
+            Some(outlet) => Some(outlet.tx.end_tally()),
+            None => {
+                let behind = place.checked_sub(self.inner.outlets.len())?;
+                let source = self.inner.sources.as_slice().get(behind)?;
+                Some(source.rx.end_tally())
+            }
+        }
     }
 
     /// Does what is next.

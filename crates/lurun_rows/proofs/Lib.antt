@@ -1,3 +1,4 @@
 mod Reported
 mod Collected
 mod Crosses
+mod Unused

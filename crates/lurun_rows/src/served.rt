@@ -71,6 +71,16 @@ impl ServedRows {
         went
     }
 
+    /// Calls the gate for each end of the site, which is over.
+    fn call_left<G: Gate>(&self, gate: &G) {
+        let site = self.station.site();
+        for place in 0..self.station.end_count() {
+            if let Some(end) = self.station.end(place) {
+                gate.left(site, end);
+            }
+        }
+    }
+
     /// What the site reports; none where it didn't end. The ends are left.
     fn report(self) -> Option<RowReport>
         ensures { IfSome result (λ r. (r.job ≡ self.job) × (r.site ≡ self.site)) }
@@ -99,8 +109,8 @@ fn go_at<G: Gate>(served_rows: &mut Vec<ServedRows>, at: usize, gate: &G) -> Wen
     served.go(gate)
 }
 
-/// Takes out a station that is over. Its report is kept, if it has one.
-fn take_out(row_share: &mut RowShare, at: usize)
+/// Takes out a station that is over, after a call of the gate for each of its ends. Its report is kept, if it has one.
+fn take_out<G: Gate>(row_share: &mut RowShare, at: usize, gate: &G)
     requires at { at < vec_len row_share.old.served_rows }
     requires room { HasRoom row_share.old }
     ensures room { HasRoom row_share.new }
@@ -108,6 +118,7 @@ fn take_out(row_share: &mut RowShare, at: usize)
     ensures len { vec_len row_share.new.served_rows + 1 ≡ vec_len row_share.old.served_rows }
 {
     let served = row_share.served_rows.swap_remove(at);
+    served.call_left(gate);
     if let Some(report) = served.report() {
         row_share.reports.push_reserved(report);
     }
@@ -130,7 +141,7 @@ fn go_round<G: Gate>(row_share: &mut RowShare, gate: &G) -> bool
             Went::Blocked => at += 1,
             Went::Over => {
                 moved = true;
-                take_out(row_share, at);
+                take_out(row_share, at, gate);
             }
         }
     }

@@ -1,11 +1,12 @@
 //! A station of a run in which sites go on by themselves: in rows, or once an instant.
 
-ghost use Rattle.std.specs.Prelude.{◌≡◌, IfSome};
+ghost use Rattle.std.specs.Prelude.{◌≡◌, ◌+◌, ◌≤◌, IfSome};
 ghost use Rattle.lublock_site.specs.RowStations.{IsRowAt};
 ghost use Rattle.lurun_rows.specs.Stations.{station_view};
 
 use lublock_site::report::RowReport;
 use lublock_site::station::{RowStation, Went};
+use lulink::EndTally;
 use lulist::ListStation;
 use std::marker::Model;
 
@@ -95,6 +96,25 @@ impl SiteStation {
         match &self.going {
             Going::Rows(station) => station.instant(),
             Going::List(station) => station.instant(),
+        }
+    }
+
+    /// How many ends of links the site has. Takes no memory.
+    pub fn end_count(&self) -> usize {
+        match &self.going {
+            Going::Rows(station) => station.end_count(),
+            Going::List(station) => station.end_count(),
+        }
+    }
+
+    /// What the end of this place has counted, from 0 on: first the sending ends, then the receiving ones. None where there is no
+    /// such end. Takes no memory.
+    pub fn end(&self, place: usize) -> Option<EndTally>
+        ensures { IfSome result (λ e. e.tally.waited ≤ e.tally.passed + 1) }
+    {
+        match &self.going {
+            Going::Rows(station) => station.end(place),
+            Going::List(station) => station.end(place),
         }
     }
 

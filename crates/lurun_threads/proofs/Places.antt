@@ -1,5 +1,5 @@
 -- The ends of a site's links, where they stand among its ends.
-use Rattle.std.proofs.Common.{◌≡◌, ◌≢◌, ℕ, zero, suc, ◌+◌, ◌-◌, ◌<◌, ◌≤◌, ◌⊎◌, inl, inr, Bool, true, false, cond, nat_eq, List, [], ◌∷◌, ◌++◌, filter, flat_map, length, map, Some, None, Option, refl, sym, ap, ◌∙◌, subst, arith}
+use Rattle.std.proofs.Common.{◌≡◌, ℕ, zero, suc, ◌+◌, ◌-◌, ◌<◌, inl, inr, Bool, true, false, cond, nat_eq, List, [], ◌∷◌, filter, flat_map, length, map, Some, Option, refl, sym, ap, ◌∙◌, subst, arith}
 use Rattle.std.specs.Prelude.{slice_get, unwrap_or, slice_index}
 use Rattle.std.specs.List.{range_with_len}
 use Rattle.std.specs.List.Sorted.{IsStrictlyIncreasing}
@@ -13,7 +13,7 @@ use Rattle.luflow.proofs.Solutions.{some_at}
 use Rattle.luworld.specs.declared.link.Link.{Link}
 use Rattle.luworld.specs.Needs.{PlanView, sites_of, home, is_linked, links_of_variable, IsPlan}
 use Rattle.luworld.specs.Systems.{puts_before}
-use Rattle.luworld.specs.Jobs.{JobView, IsJobView, system_of, streams_of, link_list, messages_of, flow_of_link, carried, receiver_of}
+use Rattle.luworld.specs.Jobs.{JobView, IsJobView, system_of, streams_of, link_list, messages_of, carried}
 use Rattle.luworld.proofs.Fitting.{job_of_run}
 use Rattle.luworld.proofs.Outlines.{is_wired}
 use Rattle.luworld.proofs.Wired.{each_flat_map, each_at, Each}
@@ -21,7 +21,7 @@ use Rattle.lulink.specs.Views.{SenderView, ReceiverView}
 use Rattle.lusite.specs.declared.next.Next.TheVariants.{Put, Take}
 use Rattle.lusite.specs.Sites.{SiteView}
 use Rattle.lusite.specs.Machine.{IsNext}
-use Rattle.lurun_threads.specs.Stations.{sender_at, receiver_at, links_from, links_into, sent_links, taken_links, AreSenders, AreReceivers}
+use Rattle.lurun_threads.specs.Stations.{sender_at, receiver_at, sent_links, taken_links, AreSenders, AreReceivers}
 use Rattle.lurun_threads.proofs.Acts.{below, once, range_increasing}
 
 -- ---- places among ends in order of their links

@@ -10,7 +10,7 @@ ghost use Rattle.lurun_threads.specs.Crew.{AreDealt, AreShares, HasRoom, IsDealt
 ghost use Rattle.lurun_threads.specs.SiteShares.{promised};
 
 use crate::ends::work_one;
-use crate::gate::{Gate, call, call_last};
+use crate::gate::{Gate, call, call_last, call_left};
 use crate::station::Station;
 use crate::tries::{Tried, offer_one, poll_one};
 use lulink::{Rx, Tx};
@@ -138,11 +138,12 @@ impl ServedSite {
         unreachable!()
     }
 
-    /// The report of the station's site; its ends are left.
-    fn report(self) -> SiteReport
+    /// The report of the station's site, after a call of the gate for each end; its ends are left.
+    fn report<G: Gate>(self, gate: &G) -> SiteReport
         ensures { ReportsFor self result }
     {
-        let ServedSite { site, .. } = self;
+        let ServedSite { site, txs, rxs, .. } = self;
+        call_left(gate, &site, &txs, &rxs);
         site.report()
     }
 }
@@ -156,14 +157,14 @@ fn go_at<R: Wait, G: Gate>(rt: &R, served_sites: &mut Vec<ServedSite>, at: usize
     served.go(rt, gate)
 }
 
-fn take_out(served_sites: &mut Vec<ServedSite>, at: usize) -> SiteReport
+fn take_out<G: Gate>(served_sites: &mut Vec<ServedSite>, at: usize, gate: &G) -> SiteReport
     requires { at < vec_len served_sites.old }
     ensures one { IsPermutation (places served_sites.old.items)
         (place_of result ∷ places served_sites.new.items) }
     ensures len { vec_len served_sites.new + 1 ≡ vec_len served_sites.old }
 {
     let served = served_sites.swap_remove(at);
-    served.report()
+    served.report(gate)
 }
 
 /// Goes round the stations until all are over.
@@ -187,7 +188,7 @@ fn serve<R: Wait, G: Gate>(
             thread::yield_now();
         }
         if go_at(rt, &mut served_sites, at, gate) {
-            reports.push_reserved(take_out(&mut served_sites, at));
+            reports.push_reserved(take_out(&mut served_sites, at, gate));
         } else {
             at += 1;
         }

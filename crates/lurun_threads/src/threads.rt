@@ -7,7 +7,7 @@ ghost use Rattle.lurun_threads.specs.Cuts.{IsOver};
 ghost use Rattle.lurun_threads.specs.Workers.{promised};
 
 use crate::ends::{put_one, take_one, work_one};
-use crate::gate::{Gate, call, call_last};
+use crate::gate::{Gate, call, call_last, call_left};
 use crate::station::Station;
 use lulink::{Rx, Tx};
 use lurun_reports::RunError;
@@ -79,6 +79,7 @@ fn serve<R: Wait, G: Gate>(rt: &R, station: Station, gate: &G) -> SiteReport
     } = station;
     go(rt, gate, &mut site, &mut txs, &mut rxs);
     call_last(gate, &site);
+    call_left(gate, &site, &txs, &rxs);
     drop(txs);
     drop(rxs);
     site.report()

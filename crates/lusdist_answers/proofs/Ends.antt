@@ -29,6 +29,7 @@ use Rattle.lusdist_shell.specs.declared.request.CheckRequest.{CheckRequest}
 use Rattle.lusdist_call.specs.Noted.{AreNotesOf, AreStandsOf, AreReplayNotes, stray_of}
 use Rattle.lusdist_call.specs.Files.{IsUnfiled}
 use Rattle.lusdist_call.specs.Statuses.{status_of, status_beside}
+use Rattle.lusdist_call.specs.Counted.{AreStats}
 use Rattle.lusdist_call.specs.Violations.{has_lines}
 use Rattle.lusdist_call.specs.Stopped.{IsRefusal}
 use Rattle.lusdist_call.specs.Left.{Streams, HasError, IsEnded, IsHelp, IsCallEnded}
@@ -85,13 +86,19 @@ none_told : (told : List ℕ) → false ≡ has_lines told → told ≡ []
 none_told [] h = refl
 none_told (b ∷ bs) h = absurd cc
 
+-- where nothing is to be counted, nothing is told of that
+no_stats : (asked : Bool) (job : JobView) (told : List ℕ) → asked ≡ false → AreStats asked job told → told ≡ []
+no_stats true job told e h = absurd cc
+no_stats false job told e h = h
+
 -- where neither warnings nor turns nor words are to be reported and nothing is violated there are no notes
 no_notes : (gives : FileFacts) (request : Request) (text notes : List ℕ) (dump : Option (List ℕ)) → IsQuiet request → IsAnswer gives request text notes false dump → notes ≡ []
 no_notes gives (Check request) text notes dump quiet is = no_check_notes request is.0.program notes quiet is.0.notes_are
 no_notes gives (Eval request) text notes dump quiet is = none_told notes is.1
 no_notes gives (New request) text notes dump quiet is = is.1
 no_notes gives (Plan request) text notes dump quiet is = is.0.notes_are ∙ ap (λ (b : Bool). cond b (idle_text request.place.now is.0.plan) []) quiet
-no_notes gives (Run request) text notes dump quiet is = none_told notes is.1
+no_notes gives (Run request) text notes dump quiet is =
+    is.0.notes_are ∙ ap₂ (λ (xs ys : List ℕ). xs ++ ys) (no_stats request.stats is.0.job is.0.stats quiet is.0.are_stats) (none_told is.0.told is.1)
 no_notes gives (Explain request) text notes dump quiet is = is.1
 no_notes gives (Replay request) text notes dump quiet is =
     let did = no_replay_notes request is.job is.turns is.printed.world is.printed.did quiet.0 quiet.1 is.printed.did_are in

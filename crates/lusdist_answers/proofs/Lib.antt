@@ -14,3 +14,4 @@ mod Ends
 mod Headlines
 mod Tellings
 mod FirstNames
+mod Lists

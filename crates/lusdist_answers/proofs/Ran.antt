@@ -37,7 +37,7 @@ use Rattle.lusdist_call.specs.Headline.{HasNoFaultIn}
 use Rattle.lusdist_shell.specs.declared.request.Request.TheVariants.{Run as AsksRun}
 use Rattle.lusdist_call.specs.declared.reply.Reply.{Reply}
 use Rattle.lusdist_call.specs.Answers.{IsRan, IsReplyTo}
-use Rattle.lusdist_call.specs.Violations.{unobserved}
+use Rattle.lusdist_call.specs.Violations.{output_flows, unobserved, violations}
 use Rattle.clap.specs.Walk.{texts}
 use Rattle.lusdist_call.specs.Asked.{IsJobFor}
 use Rattle.lusdist_call.specs.Evaluated.{AreOutputsOf}
@@ -124,6 +124,10 @@ module _ (gives : FileFacts) (request : RunRequest) (job : JobView) (asked : IsJ
         text_is = found.text_is;
         dump_is = found.dump_is;
         observed = observed;
+        stats = found.stats;
+        are_stats = found.are_stats;
+        told = violations (texts request.always.now) (output_flows job.plan.flat found.outputs);
+        told_is = refl;
         notes_are = found.notes_are;
       } in
       (ran, found.violated_is)

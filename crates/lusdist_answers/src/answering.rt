@@ -10,7 +10,8 @@ ghost use Rattle.lusdist_shell.specs.declared.request.Request.{Request};
 ghost use Rattle.lusdist_call.specs.Answers.{AreCheckNotes, IsReplyTo, plan_notes};
 ghost use Rattle.luflow.specs.Sound.{IsFit};
 ghost use Rattle.luflow.specs.Variables.{outputs_of};
-ghost use Rattle.lusdist_call.specs.Evaluated.{IsDumpedTo, IsNoFault, IsPosedBy};
+ghost use Rattle.lusdist_call.specs.Evaluated.{IsDumpedTo, IsNoFault, IsPosedWith};
+ghost use Rattle.lusdist_call.specs.Shown.{IsListFor};
 ghost use Rattle.lusdist_call.specs.Stopped.{IsCheckStopped, IsEvalStopped, IsNewStopped, IsPlanStopped, IsRefusalOf, IsRunStopped};
 ghost use Rattle.lusdist_call.specs.Mistakes.{mistake_in};
 ghost use Rattle.lusdist_call.specs.Violations.{unobserved};
@@ -22,8 +23,9 @@ use crate::evaluating::evaluation;
 use crate::jobs::{job_for, observe_job};
 use crate::planning::{plan_text, planned};
 use crate::running::run_table;
-use crate::sources::{flat_at, flattened, inputs_at, program_of};
+use crate::sources::{flat_at, flattened, inputs_at, program_of, shown_at};
 use crate::starting::start_text;
+use ludeep::DeepVariable;
 use luexplain::of_warnings;
 use luflow::{Flat, Inputs};
 use luplace::Plan;
@@ -76,15 +78,17 @@ pub fn check_answer<F: Files>(
     Ok(Reply::noted(text, notes))
 }
 
-/// The flat program and the inputs of the files that an evaluation asks for. They are read and refused in the order of the
-/// words; the names that are observed come last.
+/// The flat program and the inputs of the files that an evaluation asks for, and the variables that it shows. They are read and refused
+/// in the order of the words; the names that are observed come last.
 fn posed<F: Files>(
     alloc: Global,
     request: EvalRequest<'_>,
     files: &F,
-) -> Result<(Flat, Inputs), CallError>
-    ensures posed { IfOk result (λ found. IsPosedBy (F.gives files.now) request.entry found.0
-        found.1) }
+) -> Result<(Flat, Inputs, Vec<DeepVariable>), CallError>
+    ensures posed { IfOk result (λ found. IsPosedWith (F.gives files.now) request.entry found.0
+        found.1 found.2.items) }
+    ensures can { IfOk result (λ found. IsListFor request.entry.deep request.entry.all found.0
+        found.2.items) }
     ensures fit { IfOk result (λ found. IsFit found.0 found.1) }
     ensures some { IfOk result (λ found. 0 < length (outputs_of found.0.variables)) }
     ensures observed { IfOk result (λ found. unobserved found.0.variables
@@ -92,14 +96,14 @@ fn posed<F: Files>(
     ensures stopped { IfErr result (IsEvalStopped (F.gives files.now) request.entry) }
     ensures no_fault { IfErr result IsNoFault }
 {
-    let flat = flat_at(alloc, files, request.program, request.main)?;
+    let (flat, list) = shown_at(alloc, files, request)?;
     let inputs = inputs_at(alloc, files, &flat, request.table)?;
     observe(alloc, &flat, request.always)?;
-    Ok((flat, inputs))
+    Ok((flat, inputs, list))
 }
 
-/// What the program and the table of an evaluation give: its outputs, or all its main variables, as a table or as a chart, their dump,
-/// and what is told of outputs that are observed.
+/// What the program and the table of an evaluation give: the variables that it shows, as a table or as a chart, their dump, and what is
+/// told of outputs that are observed.
 fn evaluated<F: Files>(alloc: Global, request: EvalRequest<'_>, files: &F) -> Result<Reply, Refusal>
     requires { mistake_in request ≡ None }
     ensures reply { IfOk result (IsReplyTo (F.gives files.now) (Request.Eval request.entry)) }
@@ -108,8 +112,8 @@ fn evaluated<F: Files>(alloc: Global, request: EvalRequest<'_>, files: &F) -> Re
     ensures before { IfErr result (λ refusal. IsDumpedTo (F.gives files.now) request.entry
         refusal.error (option_map string_bytes refusal.dump)) }
 {
-    let (flat, inputs) = posed(alloc, request, files)?;
-    evaluation(alloc, request, &flat, &inputs)
+    let (flat, inputs, list) = posed(alloc, request, files)?;
+    evaluation(alloc, request, &flat, &inputs, &list)
 }
 
 /// What an evaluation gives, where what it is asked for can be meant.

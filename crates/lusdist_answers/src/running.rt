@@ -9,27 +9,32 @@ ghost use Rattle.lutab.specs.Outputs.{output_text};
 ghost use Rattle.lusdist_call.specs.Ran.{IsRunError, IsRunReply, IsStopOfRun};
 ghost use Rattle.lusdist_call.specs.Files.{dump_for, run_path};
 ghost use Rattle.lusdist_call.specs.Waved.{run_dump};
-ghost use Rattle.lusdist_call.specs.Violations.{has_lines, shown_flows, violations};
+ghost use Rattle.lusdist_call.specs.Violations.{has_lines, output_flows, violations};
 ghost use Rattle.clap.specs.Walk.{texts};
 
+use crate::counting::{Count, begin_count, count_text};
 use crate::evaluating::fault_stop;
 use crate::filing::dump_of_run;
 use luflow::Outputs;
+use lulink::EndTally;
 use luplace::{Job, Plan};
 use lurun::{Gate, RunError, run_crew, run_threads, stations};
 use lurun_rows::{SiteStation, list_stations, row_stations, run_rows};
 use lusdist_call::{CallError, Reply, column_violations};
 use lusdist_shell::{Progress, RunRequest};
-use lutab::write_outputs;
+use lustats::RunStats;
+use lutab::{shown_kinds, write_outputs};
 use std::alloc::{AllocError, Global};
 use std::rt::Clock;
 use std::sync::Wait;
 use std::thread::Threads;
 
-/// The gate that holds nothing back. It hands on how far a site has come, where somebody asked for that.
+/// The gate that holds nothing back. It hands on how far a site has come, and what the ends of its links counted, where somebody asked
+/// for that.
 #[derive(Drop)]
 struct Open<'p, P> {
     progress: Option<&'p P>,
+    stats: Option<&'p RunStats>,
 }
 
 impl<'p, P: Progress> Gate for Open<'p, P> {
@@ -40,14 +45,24 @@ impl<'p, P: Progress> Gate for Open<'p, P> {
             progress.reach(site, instant);
         }
     }
+
+    fn left(&self, site: u8, end: EndTally) {
+        if let Some(stats) = self.stats {
+            stats.note(site, end);
+        }
+    }
 }
 
-/// The gate for a run of a job: it reports the progress where that is given.
-fn gate_for<'p, P: Progress>(job: &Job, progress: Option<&'p P>) -> Open<'p, P> {
+/// The gate for a run of a job: it reports the progress, and gathers what is counted, where these are given.
+fn gate_for<'p, P: Progress>(
+    job: &Job,
+    progress: Option<&'p P>,
+    stats: Option<&'p RunStats>,
+) -> Open<'p, P> {
     if let Some(progress) = progress {
         progress.begin(job.plan().sites().len(), job.instants());
     }
-    Open { progress }
+    Open { progress, stats }
 }
 
 /// The outputs of a job whose sites pass values one by one, run by so many workers, or with a thread for each site.
@@ -159,15 +174,19 @@ fn outputs_of_run<R: Threads + Wait + Clock + Sync, P: Progress>(
     workers: Option<u8>,
     items: bool,
     progress: Option<&P>,
+    stats: Option<&RunStats>,
 ) -> Result<Outputs, RunError>
     requires few { AreFew workers }
     requires some { 0 < length (outputs_of job.now.plan.flat.variables) }
     ensures { MatchResult result (AreOutputsOf job.now) (IsRunError job.now) }
 {
-    let gate = gate_for(job, progress);
+    let gate = gate_for(job, progress, stats);
     if !items {
         if let Some(outputs) = outputs_by_rows(rt, alloc, job, workers, &gate)? {
             return Ok(outputs);
+        }
+        if let Some(stats) = stats {
+            stats.clear();
         }
     }
     outputs_by_items(rt, alloc, job, workers, &gate)
@@ -193,7 +212,8 @@ fn stop_of(alloc: Global, job: &Job, error: RunError) -> CallError
 }
 
 /// The outputs of a job that is run by so many workers, 1 to 16, or with a thread for each site; or why there are
-/// none. All its threads have ended when it returns. Where a progress is given, it gets how far the sites have come.
+/// none. All its threads have ended when it returns. Where a progress is given, it gets how far the sites have come, and the same of
+/// what is counted.
 fn run_outputs<R: Threads + Wait + Clock + Sync, P: Progress>(
     rt: &R,
     alloc: Global,
@@ -201,13 +221,14 @@ fn run_outputs<R: Threads + Wait + Clock + Sync, P: Progress>(
     workers: Option<u8>,
     items: bool,
     progress: Option<&P>,
+    stats: Option<&RunStats>,
 ) -> Result<Outputs, CallError>
     requires few { AreFew workers }
     requires some { 0 < length (outputs_of job.now.plan.flat.variables) }
     ensures outputs { IfOk result (AreOutputsOf job.now) }
     ensures stopped { IfErr result (IsStopOfRun job.now) }
 {
-    match outputs_of_run(rt, alloc, job, workers, items, progress) {
+    match outputs_of_run(rt, alloc, job, workers, items, progress, stats) {
         Ok(outputs) => Ok(outputs),
         Err(error) => Err(stop_of(alloc, job, error)),
     }
@@ -227,18 +248,28 @@ fn reported_outputs(
         outputs.now)) }
     ensures notes { IfOk result (λ reply. string_bytes reply.notes
         ≡ violations (texts request.entry.always.now)
-        (shown_flows false plan.now.flat outputs.now)) }
+        (output_flows plan.now.flat outputs.now)) }
     ensures violated { IfOk result (λ reply. reply.violated
         ≡ has_lines (string_bytes reply.notes)) }
 {
     let text = write_outputs(alloc, plan.flat(), outputs)?;
     let dump = dump_of_run(alloc, request, plan, outputs)?;
-    let told = column_violations(alloc, request.always, plan.flat(), false, outputs)?;
+    let flat = plan.flat();
+    let kinds = shown_kinds(alloc, flat.variables(), false)?;
+    let told = column_violations(alloc, request.always, flat.types(), &kinds, outputs)?;
     Ok(Reply::new(text, told, dump))
 }
 
-/// The table of the outputs of a job that is run as a request asks for, and their dump, where the request asks for one; or why there is
-/// none. All threads of the run have ended when it returns.
+/// What gathers the counts of a run, if it counts.
+fn stats_in(count: &Option<Count>) -> Option<&RunStats> {
+    match count {
+        Some(count) => Some(&count.stats),
+        None => None,
+    }
+}
+
+/// The table of the outputs of a job that is run as a request asks for, and their dump, where the request asks for one, with what is told
+/// of what it counted and of outputs that are observed; or why there is none. All threads of the run have ended when it returns.
 pub fn run_table<R: Threads + Wait + Clock + Sync, P: Progress>(
     rt: &R,
     alloc: Global,
@@ -252,7 +283,11 @@ pub fn run_table<R: Threads + Wait + Clock + Sync, P: Progress>(
     ensures stopped { IfErr result (IsStopOfRun job.now) }
 {
     let asked = request.progress.then_some(progress);
-    let outputs = run_outputs(rt, alloc, job, request.workers, request.items, asked)?;
+    let count = begin_count(rt, alloc, job.plan(), request.stats)?;
+    let stats = stats_in(&count);
+    let outputs = run_outputs(rt, alloc, job, request.workers, request.items, asked, stats)?;
+    let counted = count_text(rt, alloc, job, &count)?;
     let reply = reported_outputs(alloc, request, job.plan(), &outputs)?;
-    Ok(reply)
+    let whole = reply.behind(counted)?;
+    Ok(whole)
 }

@@ -15,18 +15,21 @@ ghost use Rattle.luworld.specs.Jobs.{IsJobView};
 ghost use Rattle.luworld.specs.Needs.{sites_of};
 ghost use Rattle.lutab.specs.Table.{IsTextOf, is_too_long};
 ghost use Rattle.lusdist_call.specs.Asked.{AreTurnsAt, AreTurnsFrom, HasFlat, IsFlatAt, IsPlanOfText, IsTableAt};
+ghost use Rattle.lusdist_call.specs.Shown.{HasShown, IsListFor, IsListOf, IsShownAt};
 ghost use Rattle.lusdist_call.specs.Refused.{IsReportedOf, IsProgramRefused, IsPlaceRefused, IsTableRefused};
 ghost use Rattle.lusdist_call.specs.Mistakes.{turns_mistake};
 ghost use Rattle.lusdist_call.specs.Stopped.{HasNoFlat, IsScheduleRefused, StopsAtProgram, StopsAtSchedule, StopsAtTable, StopsAtTurns};
 ghost use Rattle.lusdist_call.specs.declared.call_error.CallError.TheVariants.{OutOfMemory};
 
+use crate::shown::shown_variables;
 use lucore::flatten;
+use ludeep::DeepVariable;
 use luflow::{Flat, Inputs};
 use luplace::{Job, Plan};
 use luplace_file::{PlaceError, read_place};
 use lusdist_call::{CallError, read};
-use lusdist_shell::{Files, TurnsSource, random_turns, read_schedule, text_of};
-use lustat::check;
+use lusdist_shell::{EvalRequest, Files, TurnsSource, random_turns, read_schedule, text_of};
+use lustat::{Checked, check};
 use lusyn::read_program;
 use lutab::{TabError, read_inputs};
 use lutree::Program;
@@ -47,9 +50,15 @@ pub fn program_of(alloc: Global, bytes: &[u8]) -> Result<Program, CallError>
     }
 }
 
-/// The flat program of a program, from its main node of this name, where the program keeps all rules.
-pub fn flattened(alloc: Global, program: &Program, main: &str) -> Result<Flat, CallError>
-    ensures flat { IfOk result (IsFlatOf (program_view program.now) main.now) }
+/// A program that keeps all rules, from its main node of this name, with its flat program.
+fn checked_flat<'a>(
+    alloc: Global,
+    program: &'a Program,
+    main: &'a str,
+) -> Result<(Checked<'a>, Flat), CallError>
+    ensures flat { IfOk result (λ x. IsFlatOf (program_view program.now) main.now x.1) }
+    ensures program { IfOk result (λ x. x.0.program ≡ program.now) }
+    ensures main { IfOk result (λ x. x.0.main ≡ main.now) }
     ensures reported { IfErr result (IsReportedOf (program_view program.now) (places_view program.now)
         main.now) }
 {
@@ -58,9 +67,19 @@ pub fn flattened(alloc: Global, program: &Program, main: &str) -> Result<Flat, C
         Err(e) => return Err(CallError::Rules(e)),
     };
     match flatten(alloc, &checked) {
-        Ok(flat) => Ok(flat),
+        Ok(flat) => Ok((checked, flat)),
         Err(e) => Err(CallError::Flat(e)),
     }
+}
+
+/// The flat program of a program, from its main node of this name, where the program keeps all rules.
+pub fn flattened(alloc: Global, program: &Program, main: &str) -> Result<Flat, CallError>
+    ensures flat { IfOk result (IsFlatOf (program_view program.now) main.now) }
+    ensures reported { IfErr result (IsReportedOf (program_view program.now) (places_view program.now)
+        main.now) }
+{
+    let (_, flat) = checked_flat(alloc, program, main)?;
+    Ok(flat)
 }
 
 /// The flat program that the bytes of a program's file are, from its main node of this name.
@@ -84,6 +103,58 @@ pub fn flat_at<F: Files>(
 {
     let bytes = read(alloc, files, path)?;
     flat_of(alloc, &bytes, main)
+}
+
+/// The variables that an evaluation shows of a program and its flat program.
+fn list_of(
+    alloc: Global,
+    request: EvalRequest<'_>,
+    program: &Checked<'_>,
+    flat: &Flat,
+) -> Result<Vec<DeepVariable>, CallError>
+    requires main { program.now.main ≡ request.main.now }
+    requires flat { IsFlatOf (program_view program.now.program) program.now.main flat.now }
+    ensures can { IfOk result (λ list. IsListFor request.entry.deep request.entry.all flat.now
+        list.items) }
+    ensures list { IfOk result (λ list. IsListOf request.entry (program_view program.now.program)
+        flat.now list.items) }
+    ensures memory { IfErr result (λ stop. stop ≡ OutOfMemory) }
+{
+    Ok(shown_variables(alloc, request, program, flat)?)
+}
+
+/// The flat program that the bytes of a program's file are, and the variables that an evaluation shows of it.
+fn shown_of(
+    alloc: Global,
+    request: EvalRequest<'_>,
+    bytes: &[u8],
+) -> Result<(Flat, Vec<DeepVariable>), CallError>
+    ensures shown { IfOk result (λ x. HasShown bytes.now request.entry x.0 x.1.items) }
+    ensures can { IfOk result (λ x. IsListFor request.entry.deep request.entry.all x.0
+        x.1.items) }
+    ensures refused { IfErr result (λ stop. (stop ≡ OutOfMemory)
+        ⊎ HasNoFlat bytes.now request.entry.main.now stop) }
+{
+    let program = program_of(alloc, bytes)?;
+    let (checked, flat) = checked_flat(alloc, &program, request.main)?;
+    let list = list_of(alloc, request, &checked, &flat)?;
+    Ok((flat, list))
+}
+
+/// The flat program of the program's file that an evaluation names, and the variables that it shows of it.
+pub fn shown_at<F: Files>(
+    alloc: Global,
+    files: &F,
+    request: EvalRequest<'_>,
+) -> Result<(Flat, Vec<DeepVariable>), CallError>
+    ensures shown { IfOk result (λ x. IsShownAt (F.gives files.now) request.entry x.0 x.1.items) }
+    ensures can { IfOk result (λ x. IsListFor request.entry.deep request.entry.all x.0
+        x.1.items) }
+    ensures stopped { IfErr result (λ stop. (stop ≡ OutOfMemory) ⊎ StopsAtProgram
+        (F.gives files.now) request.entry.program.now request.entry.main.now stop) }
+{
+    let bytes = read(alloc, files, request.program)?;
+    shown_of(alloc, request, &bytes)
 }
 
 /// The plan of a flat program and the bytes of a placement's file.

@@ -41,6 +41,7 @@ use Rattle.lusdist_shell.specs.Request.{IsAskedBy}
 use Rattle.lusdist_call.specs.declared.reply.Reply.{Reply}
 use Rattle.lusdist_call.specs.Asked.{IsPlanFor, IsJobFor, IsAskedFor, IsWorldOf}
 use Rattle.lusdist_call.specs.Begun.{IsBegun}
+use Rattle.lusdist_call.specs.Counted.{AreStats}
 use Rattle.lusdist_call.specs.Evaluated.{AreOutputsOf, IsEvaluated}
 use Rattle.lusdist_call.specs.Explained.{code_in, explanation}
 use Rattle.lusdist_call.specs.Files.{dump_for, replay_path, run_path}
@@ -48,7 +49,7 @@ use Rattle.lusdist_call.specs.Mistakes.{replay_mistake}
 use Rattle.lusdist_call.specs.Noted.{AreReplayNotes}
 use Rattle.lusdist_call.specs.RunReportTexts.{run_report_text, IsReportedBy}
 use Rattle.clap.specs.Walk.{texts}
-use Rattle.lusdist_call.specs.Violations.{AreViolationsOf, has_lines, shown_flows, unobserved, violations}
+use Rattle.lusdist_call.specs.Violations.{AreViolationsOf, has_lines, output_flows, unobserved, violations}
 use Rattle.lusdist_call.specs.Waved.{run_dump, IsWorldDump, AreSignalsTrue}
 
 -- what goes to the error stream beside a check: where they are asked for, all warnings of the program that
@@ -130,7 +131,7 @@ pub record IsReplayed (gives : FileFacts) (request : ReplayRequest) (text notes 
 -- What a run of what a request asks for gives: the table of the outputs of the program at the input table,
 -- and the dump of the same outputs, where one is asked for. Each is what every solution of the program
 -- that the file spells gives that variable at all instants, and no operator is a fault. The notes are what is
--- told of outputs that are observed.
+-- told of what it counted, where that is asked for, and of outputs that are observed.
 pub record IsRan (gives : FileFacts) (request : RunRequest) (text notes : List ℕ)
     (dump : Option (List ℕ)) : Type 0 where
   pub job : JobView
@@ -140,7 +141,11 @@ pub record IsRan (gives : FileFacts) (request : RunRequest) (text notes : List �
   pub text_is : text ≡ output_text job.plan.flat outputs
   pub dump_is : dump ≡ dump_for (run_path request) (run_dump request.main.now job.plan outputs)
   pub observed : unobserved job.plan.flat.variables (texts request.always.now) ≡ None
-  pub notes_are : notes ≡ violations (texts request.always.now) (shown_flows false job.plan.flat outputs)
+  pub stats : List ℕ
+  pub are_stats : AreStats request.stats job stats
+  pub told : List ℕ
+  pub told_is : told ≡ violations (texts request.always.now) (output_flows job.plan.flat outputs)
+  pub notes_are : notes ≡ stats ++ told
 
 -- nothing is violated, and there is no dump
 abbrev pub IsPlain : Bool → Option (List ℕ) → Type 0
@@ -159,7 +164,7 @@ IsAnswer gives (Plan request) text notes violated dump =
     IsPlanned gives request text notes × IsPlain violated dump
 IsAnswer gives (Replay request) text notes violated dump = IsReplayed gives request text notes violated dump
 IsAnswer gives (AsksRun request) text notes violated dump =
-    IsRan gives request text notes dump × (violated ≡ has_lines notes)
+    (ran : IsRan gives request text notes dump) × (violated ≡ has_lines ran.told)
 IsAnswer gives (Explain request) text notes violated dump =
     (explanation (code_in request) ≡ Some text) × (notes ≡ []) × IsPlain violated dump
 
@@ -169,12 +174,13 @@ IsReplyTo gives request reply =
     IsAnswer gives request (string_bytes reply.text) (string_bytes reply.notes) reply.violated
     (option_map string_bytes reply.dump)
 
--- a request asks for nothing beside its answer but that nothing is violated: for no warnings, and of a replay
--- for no turns and no words
+-- a request asks for nothing beside its answer but that nothing is violated: for no warnings, of a replay for
+-- no turns and no words, and of a run for no counts
 abbrev pub IsQuiet : Request → Type 0
 IsQuiet (Check request) = request.warn ≡ false
 IsQuiet (Plan request) = request.warn ≡ false
 IsQuiet (Replay request) = (request.turns ≡ Nothing) × (request.explain ≡ false)
+IsQuiet (AsksRun request) = request.stats ≡ false
 IsQuiet _ = Unit {0}
 
 -- so do the words

@@ -19,7 +19,7 @@ use Rattle.lusyn.specs.Texts.{SpellsText}
 use Rattle.lucore.specs.Result.{IsFlatOf}
 use Rattle.lueval.specs.Whole.{IsFirstFault, HasNoFault}
 use Rattle.lutab.specs.Table.{IsTextOf, is_too_long}
-use Rattle.lutab.specs.Outputs.{shown_of, kinds_of, column_text}
+use Rattle.lutab.specs.Outputs.{column_text}
 use Rattle.lutab.specs.Aligned.{aligned_text}
 use Rattle.luchart.specs.Chronogram.{chart_text}
 use Rattle.luchart.specs.Dump.{dump_text}
@@ -28,7 +28,11 @@ use Rattle.lusdist_shell.specs.declared.request.EvalRequest.{EvalRequest}
 use Rattle.lusdist_call.specs.Files.{dump_for, wave_path}
 use Rattle.lusdist_call.specs.Mistakes.{mistake_in}
 use Rattle.clap.specs.Walk.{texts}
-use Rattle.lusdist_call.specs.Violations.{shown_flows, unobserved, violations}
+use Rattle.ludeep.specs.declared.variables.DeepVariable.{DeepVariable}
+use Rattle.ludeep.specs.Variables.{InstanceVariable}
+use Rattle.luchart.specs.Signals.{signals_of}
+use Rattle.lusdist_call.specs.Shown.{AreShown, IsListOf, kinds_of, listed_kinds, listed_names, names_of}
+use Rattle.lusdist_call.specs.Violations.{unobserved, violations}
 use Rattle.lusdist_call.specs.declared.call_error.CallError.{CallError}
 use Rattle.lusdist_call.specs.declared.call_error.CallError.TheVariants.{Fault, OutOfMemory}
 use Rattle.lusdist_shell.specs.Files.{FileFacts}
@@ -46,87 +50,86 @@ pub record IsPosed (text main table : List ℕ) (tree : ProgramTree) (flat : Fla
   pub agrees : Agrees tree main inputs flat
   pub one_meaning : HasOneMeaning tree main inputs
 
--- These variables of the main node by name, in this order, each with what every solution of the program gives
--- that variable at all instants of the table; and no operator is a fault, neither of the flat program nor of
--- the source.
+-- what the first n instants of these variables are, in this order: each by its name, with what every solution
+-- of the program gives it
+pub record AreVariablesAt (tree : ProgramTree) (main : List ℕ) (inputs : InputsView)
+    (shown : List InstanceVariable) (n : ℕ) (columns : List OutputColumn) : Type 0 where
+  pub named : map (λ (c : OutputColumn). c.name) columns ≡ names_of tree main shown
+  pub streams : (σ : SourceStreams) → IsSourceSolution tree main inputs σ
+      → (k : ℕ) (x : InstanceVariable) (c : OutputColumn)
+      → slice_get shown k ≡ Some x → slice_get columns k ≡ Some c
+      → map Known c.statuses ≡ marks (σ x.path x.variable.name) n
+
+-- the same of all instants of the table; and no operator is a fault, neither of the flat program nor of the
+-- source
 pub record AreVariablesOf (tree : ProgramTree) (main : List ℕ) (flat : FlatView) (inputs : InputsView)
-    (variables : List Variable) (columns : List OutputColumn) : Type 0 where
-  pub named : map (λ (c : OutputColumn). c.name) columns ≡ map (λ (x : Variable). x.name) variables
-  pub streams : (σ : SourceStreams) → IsSourceSolution tree main inputs σ → (k : ℕ) (c : OutputColumn)
-      → slice_get columns k ≡ Some c → map Known c.statuses ≡ marks (σ [] c.name) inputs.instants
+    (shown : List InstanceVariable) (columns : List OutputColumn) : Type 0 where
+  pub at_all : AreVariablesAt tree main inputs shown inputs.instants columns
   pub no_fault : HasNoFault flat inputs
   pub no_source_fault : (σ : SourceStreams) → IsSourceSolution tree main inputs σ → (name : List ℕ) (t : ℕ)
       (kind : FaultKind) → t < inputs.instants → ¬ IsSourceFault tree main inputs σ name t kind
 
--- the outputs of the main node, in order of declaration
-abbrev pub AreOutputsOf : ProgramTree → List ℕ → FlatView → InputsView → List OutputColumn → Type 0
-AreOutputsOf tree main flat inputs outputs =
-    AreVariablesOf tree main flat inputs (outputs_of flat.variables) outputs
-
--- the same of the first n instants alone, and without a word on faults
-pub record AreVariablesAt (tree : ProgramTree) (main : List ℕ) (inputs : InputsView)
-    (variables : List Variable) (n : ℕ) (columns : List OutputColumn) : Type 0 where
-  pub named : map (λ (c : OutputColumn). c.name) columns ≡ map (λ (x : Variable). x.name) variables
+-- The outputs of the main node by name, in order of declaration, each with what every solution of the program
+-- gives that variable at all instants of the table; and no operator is a fault, neither of the flat program nor
+-- of the source.
+pub record AreOutputsOf (tree : ProgramTree) (main : List ℕ) (flat : FlatView) (inputs : InputsView)
+    (outputs : List OutputColumn) : Type 0 where
+  pub named : map (λ (c : OutputColumn). c.name) outputs
+      ≡ map (λ (x : Variable). x.name) (outputs_of flat.variables)
   pub streams : (σ : SourceStreams) → IsSourceSolution tree main inputs σ → (k : ℕ) (c : OutputColumn)
-      → slice_get columns k ≡ Some c → map Known c.statuses ≡ marks (σ [] c.name) n
+      → slice_get outputs k ≡ Some c → map Known c.statuses ≡ marks (σ [] c.name) inputs.instants
+  pub no_fault : HasNoFault flat inputs
+  pub no_source_fault : (σ : SourceStreams) → IsSourceSolution tree main inputs σ → (name : List ℕ) (t : ℕ)
+      (kind : FaultKind) → t < inputs.instants → ¬ IsSourceFault tree main inputs σ name t kind
 
--- a column is what a main variable of its name has at the first n instants in every solution of the flat
--- program
-pub record IsColumnOf (flat : FlatView) (inputs : InputsView) (n : ℕ) (column : OutputColumn) : Type 0 where
-  pub number : ℕ
-  pub variable : Variable
-  pub there : slice_get flat.variables number ≡ Some variable
-  pub named : column.name ≡ variable.name
-  pub statuses : (σ : Streams) → IsSolution flat inputs σ → map Known column.statuses ≡ marks (σ number) n
-
--- columns of these main variables of a flat program, in this order
-pub record AreEvaluated (flat : FlatView) (inputs : InputsView) (variables : List Variable) (n : ℕ)
+-- columns of these variables, in this order: each by its name, with what its flow has at the first n instants
+-- in every solution of the flat program
+pub record AreEvaluated (flat : FlatView) (inputs : InputsView) (list : List DeepVariable) (n : ℕ)
     (columns : List OutputColumn) : Type 0 where
-  pub named : map (λ (c : OutputColumn). c.name) columns ≡ map (λ (x : Variable). x.name) variables
-  pub each : (k : ℕ) (c : OutputColumn) → slice_get columns k ≡ Some c → IsColumnOf flat inputs n c
+  pub named : map (λ (c : OutputColumn). c.name) columns ≡ listed_names list
+  pub each : (σ : Streams) → IsSolution flat inputs σ → (k : ℕ) (d : DeepVariable) (c : OutputColumn)
+      → slice_get list k ≡ Some d → slice_get columns k ≡ Some c
+      → map Known c.statuses ≡ marks (σ d.flow) n
 
 -- a table with a line for each instant, fields joined by commas or with its columns aligned
 abbrev pub tabled_text : Bool → List Enum → List Kind → List OutputColumn → List ℕ
 tabled_text aligned types kinds columns =
     if aligned then aligned_text types kinds columns else column_text types kinds columns
 
--- The variables that a request asks for, in the form that it asks for: as a table, or as a chart of the
--- instants from one to another.
-abbrev pub shown_text : EvalRequest → FlatView → List OutputColumn → List ℕ
-shown_text request flat columns =
-    if request.chronogram
-    then chart_text flat.types (kinds_of (shown_of request.all flat.variables)) columns request.from
-    request.to
-    else tabled_text request.aligned flat.types (kinds_of (shown_of request.all flat.variables)) columns
+-- Columns of these types, in the form that a request asks for: as a table, or as a chart of the instants from
+-- one to another.
+abbrev pub shown_text : EvalRequest → List Enum → List Kind → List OutputColumn → List ℕ
+shown_text request types kinds columns =
+    if request.chronogram then chart_text types kinds columns request.from request.to
+    else tabled_text request.aligned types kinds columns
 
--- the dump of the variables that a request asks for
-abbrev pub wave_text : EvalRequest → FlatView → List OutputColumn → List ℕ
-wave_text request flat columns =
-    dump_text request.main.now flat.types (kinds_of (shown_of request.all flat.variables)) columns
+-- the dump of columns of these types
+abbrev pub wave_text : EvalRequest → List Enum → List Kind → List OutputColumn → List ℕ
+wave_text request types kinds columns = dump_text request.main.now types kinds columns
 
--- what is told of outputs that are observed
-abbrev pub eval_notes : EvalRequest → FlatView → List OutputColumn → List ℕ
-eval_notes request flat columns =
-    violations (texts request.always.now) (shown_flows request.all flat columns)
+-- what is told of outputs that are observed, among columns of these types
+abbrev pub eval_notes : EvalRequest → List Enum → List Kind → List OutputColumn → List ℕ
+eval_notes request types kinds columns =
+    violations (texts request.always.now) (signals_of types kinds columns)
 
--- what a request asks for of a flat program and a table, as a text, the dump of it where one is asked for,
--- and what is told of outputs that are observed
-pub record IsShown (request : EvalRequest) (flat : FlatView) (inputs : InputsView) (text notes : List ℕ)
-    (dump : Option (List ℕ)) : Type 0 where
+-- what a request asks for of variables of a flat program at a table, as a text, the dump of it where one is
+-- asked for, and what is told of outputs that are observed
+pub record IsShown (request : EvalRequest) (flat : FlatView) (inputs : InputsView) (list : List DeepVariable)
+    (text notes : List ℕ) (dump : Option (List ℕ)) : Type 0 where
   pub columns : List OutputColumn
-  pub are_columns : AreEvaluated flat inputs (shown_of request.all flat.variables) inputs.instants columns
+  pub are_columns : AreEvaluated flat inputs list inputs.instants columns
   pub no_fault : HasNoFault flat inputs
-  pub text_is : text ≡ shown_text request flat columns
-  pub dump_is : dump ≡ dump_for (wave_path request) (wave_text request flat columns)
-  pub notes_are : notes ≡ eval_notes request flat columns
+  pub text_is : text ≡ shown_text request flat.types (listed_kinds list) columns
+  pub dump_is : dump ≡ dump_for (wave_path request) (wave_text request flat.types (listed_kinds list) columns)
+  pub notes_are : notes ≡ eval_notes request flat.types (listed_kinds list) columns
 
--- where a dump is asked for, that of what a request asks for of the first n instants
-abbrev pub IsShownBefore : EvalRequest → FlatView → InputsView → ℕ → Option (List ℕ) → Option (List ℕ)
-    → Type 0
-IsShownBefore request flat inputs n None dump = dump ≡ None
-IsShownBefore request flat inputs n (Some path) dump = (columns : List OutputColumn)
-    × AreEvaluated flat inputs (shown_of request.all flat.variables) n columns
-    × (dump ≡ Some (wave_text request flat columns))
+-- where a dump is asked for, that of what these variables have at the first n instants
+abbrev pub IsShownBefore : EvalRequest → FlatView → InputsView → List DeepVariable → ℕ → Option (List ℕ)
+    → Option (List ℕ) → Type 0
+IsShownBefore request flat inputs list n None dump = dump ≡ None
+IsShownBefore request flat inputs list n (Some path) dump = (columns : List OutputColumn)
+    × AreEvaluated flat inputs list n columns
+    × (dump ≡ Some (wave_text request flat.types (listed_kinds list) columns))
 
 -- no operator is a fault before an instant
 abbrev pub HasNoFaultBefore : FlatView → InputsView → ℕ → Type 0
@@ -143,8 +146,14 @@ pub record IsPosedBy (gives : FileFacts) (request : EvalRequest) (flat : FlatVie
   pub tree : ProgramTree
   pub posed : IsPosed program request.main.now table tree flat inputs
 
+-- with the list of the variables that it shows
+pub record IsPosedWith (gives : FileFacts) (request : EvalRequest) (flat : FlatView) (inputs : InputsView)
+    (list : List DeepVariable) : Type 0 where
+  pub posed : IsPosedBy gives request flat inputs
+  pub list_of : IsListOf request posed.tree flat list
+
 -- The text of an evaluation: the outputs of the program that the files of a request gave, or all variables
--- of its main node, in order of declaration, at the table that they gave; as a table or as a chart. The
+-- of its main node, or those of all instances, at the table that they gave; as a table or as a chart. The
 -- dump, where one is asked for, is that of the same variables. The notes are what is told of outputs that are
 -- observed.
 pub record IsEvaluated (gives : FileFacts) (request : EvalRequest) (text notes : List ℕ)
@@ -153,13 +162,14 @@ pub record IsEvaluated (gives : FileFacts) (request : EvalRequest) (text notes :
   pub flat : FlatView
   pub inputs : InputsView
   pub asked : IsPosedBy gives request flat inputs
+  pub shown : List InstanceVariable
+  pub are_shown : AreShown request asked.tree flat shown
   pub columns : List OutputColumn
-  pub are_columns : AreVariablesOf asked.tree request.main.now flat inputs
-      (shown_of request.all flat.variables) columns
-  pub text_is : text ≡ shown_text request flat columns
-  pub dump_is : dump ≡ dump_for (wave_path request) (wave_text request flat columns)
+  pub are_columns : AreVariablesOf asked.tree request.main.now flat inputs shown columns
+  pub text_is : text ≡ shown_text request flat.types (kinds_of shown) columns
+  pub dump_is : dump ≡ dump_for (wave_path request) (wave_text request flat.types (kinds_of shown) columns)
   pub observed : unobserved flat.variables (texts request.always.now) ≡ None
-  pub notes_are : notes ≡ eval_notes request flat columns
+  pub notes_are : notes ≡ eval_notes request flat.types (kinds_of shown) columns
 
 -- the fault of the least instant, and there of the least rank, by the name of the main variable in whose
 -- equation it stands
@@ -185,10 +195,11 @@ IsStopped flat inputs OutOfMemory = Unit {0}
 IsStopped flat inputs _ = ⊥
 
 -- where it stops at a fault, the dump has all instants before it; else there is none
-abbrev pub IsShownTo : EvalRequest → FlatView → InputsView → CallError → Option (List ℕ) → Type 0
-IsShownTo request flat inputs (Fault name instant kind) dump =
-    IsShownBefore request flat inputs instant (wave_path request) dump
-IsShownTo request flat inputs _ dump = dump ≡ None
+abbrev pub IsShownTo : EvalRequest → FlatView → InputsView → List DeepVariable → CallError
+    → Option (List ℕ) → Type 0
+IsShownTo request flat inputs list (Fault name instant kind) dump =
+    IsShownBefore request flat inputs list instant (wave_path request) dump
+IsShownTo request flat inputs list _ dump = dump ≡ None
 
 -- a stop that reports no fault of an evaluation
 abbrev pub IsNoFault : CallError → Type 0
@@ -202,10 +213,11 @@ pub record IsDumpedBefore (gives : FileFacts) (request : EvalRequest) (name : Li
   pub inputs : InputsView
   pub asked : IsPosedBy gives request flat inputs
   pub reported : IsFaultReported flat inputs name instant kind
+  pub shown : List InstanceVariable
+  pub are_shown : AreShown request asked.tree flat shown
   pub columns : List OutputColumn
-  pub are_columns : AreVariablesAt asked.tree request.main.now inputs (shown_of request.all flat.variables)
-      instant columns
-  pub dump_is : dump ≡ Some (wave_text request flat columns)
+  pub are_columns : AreVariablesAt asked.tree request.main.now inputs shown instant columns
+  pub dump_is : dump ≡ Some (wave_text request flat.types (kinds_of shown) columns)
 
 abbrev pub IsPartDump : FileFacts → EvalRequest → List ℕ → ℕ → FaultKind → Option (List ℕ)
     → Option (List ℕ) → Type 0

@@ -7,10 +7,12 @@ pub mod Noted
 pub mod Answers
 pub mod Refused
 pub mod Stopped
+pub mod Shown
 pub mod Evaluated
 pub mod RunReportTexts
 pub mod Waved
 pub mod Exact
+pub mod Counted
 pub mod Ran
 pub mod Statuses
 pub mod Mistakes

@@ -1,5 +1,5 @@
 -- What a run of a job on threads gives.
-use Rattle.std.specs.Prelude.{◌≡◌, ℕ, List, false, option_map, string_bytes}
+use Rattle.std.specs.Prelude.{◌≡◌, ℕ, List, ◌++◌, option_map, string_bytes}
 use Rattle.luflow.specs.Tables.{OutputColumn}
 use Rattle.luflow.specs.Variables.{variable_name}
 use Rattle.luworld.specs.Jobs.{JobView}
@@ -12,7 +12,8 @@ use Rattle.lusdist_shell.specs.declared.request.RunRequest.{RunRequest}
 use Rattle.lusdist_call.specs.declared.reply.Reply.{Reply}
 use Rattle.lusdist_call.specs.Files.{dump_for, run_path}
 use Rattle.clap.specs.Walk.{texts}
-use Rattle.lusdist_call.specs.Violations.{has_lines, shown_flows, violations}
+use Rattle.lusdist_call.specs.Violations.{has_lines, output_flows, violations}
+use Rattle.lusdist_call.specs.Counted.{AreStats}
 use Rattle.lusdist_call.specs.Waved.{run_dump}
 use Rattle.lusdist_call.specs.declared.call_error.CallError.{CallError}
 use Rattle.lusdist_call.specs.declared.call_error.CallError.TheVariants.{Fault, LinkLost, NoThread}
@@ -42,13 +43,16 @@ IsStopOfRun job OutOfMemory = Unit {0}
 IsStopOfRun job _ = ⊥
 
 -- what a run of a job gives: the table of its outputs, the dump of the same, where one is asked for, and what
--- is told of outputs that are observed
+-- is told of what it counted, where that is asked for, and of outputs that are observed
 pub record IsRunReply (job : JobView) (request : RunRequest) (reply : Reply) : Type 0 where
   pub outputs : List OutputColumn
   pub are_outputs : AreOutputsOf job outputs
   pub text_is : string_bytes reply.text ≡ output_text job.plan.flat outputs
   pub dump_is : option_map string_bytes reply.dump ≡ dump_for (run_path request)
       (run_dump request.main.now job.plan outputs)
+  pub stats : List ℕ
+  pub are_stats : AreStats request.stats job stats
   pub notes_are : string_bytes reply.notes
-      ≡ violations (texts request.always.now) (shown_flows false job.plan.flat outputs)
-  pub violated_is : reply.violated ≡ has_lines (string_bytes reply.notes)
+      ≡ stats ++ violations (texts request.always.now) (output_flows job.plan.flat outputs)
+  pub violated_is : reply.violated
+      ≡ has_lines (violations (texts request.always.now) (output_flows job.plan.flat outputs))

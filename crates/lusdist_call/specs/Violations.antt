@@ -15,7 +15,7 @@ use Rattle.luflow.specs.Program.{FlatView}
 use Rattle.luflow.specs.Tables.{OutputColumn}
 use Rattle.luflow.specs.Variables.{is_output}
 use Rattle.luworld.specs.WorldViews.{WorldView}
-use Rattle.lutab.specs.Outputs.{kinds_of, shown_of}
+use Rattle.lutab.specs.Outputs.{output_kinds}
 use Rattle.luchart.specs.Signals.{Signal, signals_of}
 use Rattle.luweave_text.specs.Waves.{AreOutputSignals}
 
@@ -69,11 +69,11 @@ abbrev pub has_lines : List ℕ → Bool
 has_lines [] = false
 has_lines (b ∷ bs) = true
 
--- OF WHAT A COMMAND SHOWS
+-- OF WHAT A RUN AND A REPLAY SHOW
 
--- the outputs of a flat program, or all its main variables, with these columns
-abbrev pub shown_flows : Bool → FlatView → List OutputColumn → List Signal
-shown_flows all flat columns = signals_of flat.types (kinds_of (shown_of all flat.variables)) columns
+-- the outputs of a flat program, with these columns
+abbrev pub output_flows : FlatView → List OutputColumn → List Signal
+output_flows flat columns = signals_of flat.types (output_kinds flat.variables) columns
 
 -- what is told of the outputs of a world, each as far as it was passed
 pub record AreViolationsOf (names : List (List ℕ)) (w : WorldView) (told : List ℕ) : Type 0 where

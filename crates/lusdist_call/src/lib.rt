@@ -7,6 +7,7 @@
 //!
 //! - `specs/Asked.antt`: what the texts of a plan, of a replay and of a run say, and what their files gave.
 //! - `specs/Answers.antt`: what each command answers.
+//! - `specs/Shown.antt`: which variables an evaluation shows.
 //! - `specs/Evaluated.antt`: what an evaluation prints and dumps, and what it says of a fault.
 //! - `specs/Exact.antt`: that an answer and a refusal exclude each other, and that there is one refusal.
 //! - `specs/Explained.antt`: what is printed of a code, and of which code nothing is.
@@ -16,6 +17,7 @@
 //! - `specs/RunReportTexts.antt`: what a world reports, and the text of it.
 //! - `specs/Waved.antt`: the dumps of runs and replays.
 //! - `specs/Violations.antt`: which outputs are observed, and what is told of them.
+//! - `specs/Counted.antt`: what is told of what a run counted.
 //! - `specs/Targets.antt`: where the dump of a call may go.
 //! - `specs/Reasons.antt`: what goes behind the line of a refusal. `specs/Left.antt`: how a call ends, and what it leaves.
 //!

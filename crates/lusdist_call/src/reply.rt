@@ -1,13 +1,13 @@
 //! What a call answers that doesn't stop.
 
-ghost use Rattle.std.specs.Prelude.{◌≡◌, ◌⊎◌, [], true, false, None, string_bytes, codes};
+ghost use Rattle.std.specs.Prelude.{◌≡◌, ◌⊎◌, ◌++◌, [], true, false, IfOk, None, string_bytes, codes};
 ghost use Rattle.std.specs.Io.KnownBytes.{Appends};
 ghost use Rattle.lusdist_shell.specs.Sinks.{HasPut, HasLine, HasBeginning};
 ghost use Rattle.lusdist_call.specs.Statuses.{status_beside};
 ghost use Rattle.lusdist_call.specs.Violations.{has_lines};
 
 use lusdist_shell::{Sink, put_notes, put_out};
-use std::alloc::Global;
+use std::alloc::{AllocError, Global};
 use std::io::Write;
 
 /// What a call answers: a text for the output, notes for the error stream, and a dump for a file, where one is asked for; and whether the
@@ -50,6 +50,34 @@ impl Reply {
             dump: None,
             violated: false,
         }
+    }
+
+    /// The same with these notes before its own.
+    ///
+    /// # Errors
+    ///
+    /// `AllocError` where memory ran out. The reply is gone then.
+    pub fn behind(self, notes: String) -> Result<Reply, AllocError>
+        ensures text { IfOk result (λ reply. reply.text ≡ self.text) }
+        ensures notes { IfOk result (λ reply. string_bytes reply.notes
+            ≡ string_bytes notes ++ string_bytes self.notes) }
+        ensures dump { IfOk result (λ reply. reply.dump ≡ self.dump) }
+        ensures violated { IfOk result (λ reply. reply.violated ≡ self.violated) }
+    {
+        let Reply {
+            text,
+            notes: own,
+            dump,
+            violated,
+        } = self;
+        let mut all = notes;
+        all.push_str(&own)?;
+        Ok(Reply {
+            text,
+            notes: all,
+            dump,
+            violated,
+        })
     }
 
     /// A text alone.

@@ -5,8 +5,8 @@ ghost use Rattle.std.specs.List.{position};
 ghost use Rattle.std.specs.Option.{option_or};
 ghost use Rattle.clap.specs.Walk.{texts};
 ghost use Rattle.luchart.specs.Pieces.{Adds};
-ghost use Rattle.luchart.specs.Signals.{signal_view, signals_view};
-ghost use Rattle.lusdist_call.specs.Violations.{is_bool, is_false, is_observable, is_unknown, shown_flows, unobserved, violation, violation_if, violation_line, violation_of, violations, AreViolationsOf};
+ghost use Rattle.luchart.specs.Signals.{signal_view, signals_of, signals_view};
+ghost use Rattle.lusdist_call.specs.Violations.{is_bool, is_false, is_observable, is_unknown, unobserved, violation, violation_if, violation_line, violation_of, violations, AreViolationsOf};
 ghost use Rattle.lusdist_call.specs.Stopped.{IsUnobserved};
 ghost use Rattle.lusdist_call.specs.declared.call_error.CallError.TheVariants.{Mistaken, OutOfMemory};
 ghost use Rattle.lusdist_call.specs.declared.mistake.Mistake.TheVariants.{Unobserved};
@@ -15,9 +15,8 @@ use crate::call_error::CallError;
 use crate::mistake::Mistake;
 use lubase::Name;
 use luchart::signal::{Signal, signals_of};
-use luflow::{Datum, Flat, Outputs, Status, Variable};
+use luflow::{Datum, Enum, Flat, Outputs, Status, Variable};
 use luplace::Plan;
-use lutab::shown_kinds;
 use lutree::Kind;
 use luweave::World;
 use luweave_text::output_signals;
@@ -195,8 +194,8 @@ fn violations_of(alloc: Global, names: &[&str], flows: &[Signal<'_>]) -> Result<
     Ok(text)
 }
 
-/// What is told of columns of the outputs of a flat program, or of all its main variables, of which these are observed: a line for each
-/// that is false at some instant, in the order of the names.
+/// What is told of columns of these types, of which those of these names are observed: a line for each that is false at some instant, in
+/// the order of the names.
 ///
 /// # Errors
 ///
@@ -204,15 +203,14 @@ fn violations_of(alloc: Global, names: &[&str], flows: &[Signal<'_>]) -> Result<
 pub fn column_violations(
     alloc: Global,
     names: &[&str],
-    flat: &Flat,
-    all: bool,
+    types: &[Enum],
+    kinds: &[Kind],
     columns: &Outputs,
 ) -> Result<String, AllocError>
     ensures { IfOk result (λ told. string_bytes told
-        ≡ violations (texts names.now) (shown_flows all flat.now columns.now)) }
+        ≡ violations (texts names.now) (signals_of types.now kinds.now columns.now)) }
 {
-    let kinds = shown_kinds(alloc, flat.variables(), all)?;
-    let flows = signals_of(alloc, flat.types(), &kinds, columns.columns())?;
+    let flows = signals_of(alloc, types, kinds, columns.columns())?;
     violations_of(alloc, names, &flows)
 }
 

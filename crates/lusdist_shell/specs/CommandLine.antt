@@ -62,13 +62,14 @@ always_rule = record (new_rule (codes "always")) {
   action = Some Append;
 }
 
--- `eval PROGRAM TABLE [--main NAME] [--explain] [--short] [--all] [--text] [--chronogram] [--from T] [--to T]
--- [--vcd FILE] [--always NAME]..`
+-- `eval PROGRAM TABLE [--main NAME] [--explain] [--short] [--all] [--deep] [--text] [--chronogram] [--from T]
+-- [--to T] [--vcd FILE] [--always NAME]..`
 abbrev pub eval : App
 eval =
-    with_rule (with_rule (with_rule
+    with_rule (with_rule (with_rule (with_rule
     (with_rule (with_rule (with_rule (with_rule (with_rule (with_rule (judging (codes "eval"))
-    (flag_rule (codes "all"))) (flag_rule (codes "text"))) (flag_rule (codes "chronogram")))
+    (flag_rule (codes "all"))) (flag_rule (codes "deep"))) (flag_rule (codes "text")))
+    (flag_rule (codes "chronogram")))
     (instant_rule (codes "from"))) (instant_rule (codes "to"))) vcd_rule) always_rule)
     (path_rule (codes "PROGRAM")))
     (path_rule (codes "TABLE"))
@@ -129,13 +130,14 @@ workers_rule = record (new_rule (codes "workers")) {
   parser = Some (Unsigned fewest_workers most_workers);
 }
 
--- `run PROGRAM PLACE TABLE [--main NAME] [--explain] [--short] [--workers W] [--progress] [--items]
+-- `run PROGRAM PLACE TABLE [--main NAME] [--explain] [--short] [--workers W] [--progress] [--items] [--stats]
 -- [--vcd FILE] [--always NAME]..`
 abbrev pub run : App
 run =
-    with_rule (with_rule
+    with_rule (with_rule (with_rule
     (with_rule (with_rule (with_rule (with_rule (with_rule (with_rule (judging (codes "run")) workers_rule)
-    (flag_rule (codes "progress"))) (flag_rule (codes "items"))) vcd_rule) always_rule)
+    (flag_rule (codes "progress"))) (flag_rule (codes "items"))) (flag_rule (codes "stats"))) vcd_rule)
+    always_rule)
     (path_rule (codes "PROGRAM"))) (path_rule (codes "PLACE"))) (path_rule (codes "TABLE"))
 
 -- a code, which may be left out

@@ -131,6 +131,7 @@ pub record IsEvalIn (command : Option (Text × List Row)) (request : EvalRequest
   pub program : request.program.now ≡ text_in matches (codes "PROGRAM")
   pub table : request.table.now ≡ text_in matches (codes "TABLE")
   pub all : request.all ≡ is_given matches (codes "all")
+  pub deep : request.deep ≡ is_given matches (codes "deep")
   pub chronogram : request.chronogram ≡ is_given matches (codes "chronogram")
   pub from : IsInstantIn (first_of (codes "from") matches) request.from
   pub to : IsInstantIn (first_of (codes "to") matches) request.to
@@ -193,6 +194,7 @@ pub record IsRunIn (command : Option (Text × List Row)) (request : RunRequest) 
   pub workers : AreWorkersIn (first_of (codes "workers") matches) request.workers
   pub progress : request.progress ≡ is_given matches (codes "progress")
   pub items : request.items ≡ is_given matches (codes "items")
+  pub stats : request.stats ≡ is_given matches (codes "stats")
   pub vcd : option_map (λ s. s.now) request.vcd ≡ first_of (codes "vcd") matches
   pub always : texts request.always.now ≡ texts_in matches (codes "always")
   pub few : AreFew request.workers

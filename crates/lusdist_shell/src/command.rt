@@ -112,6 +112,12 @@ const ALL: Argument<'static> = Argument::Flag {
     help: "Prints all variables of the main node in place of its outputs alone",
 };
 
+/// Whether an evaluation reports the variables of all instances.
+const DEEP: Argument<'static> = Argument::Flag {
+    name: "deep",
+    help: "The same as --all, and the variables of all instances of called nodes, by their paths",
+};
+
 /// Whether the table of an evaluation has its columns aligned.
 const ALIGNED: Argument<'static> = Argument::Flag {
     name: "text",
@@ -212,6 +218,12 @@ const ITEMS: Argument<'static> = Argument::Flag {
     help: "Passes values one by one, also where the sites could work in blocks of instants",
 };
 
+/// Whether a run says what its sites and links did.
+const STATS: Argument<'static> = Argument::Flag {
+    name: "stats",
+    help: "Tells on the error stream what the sites and the links did: messages, waits, and how full links were",
+};
+
 /// All commands, in the order in which help lists them.
 const TASKS: [Task<'static>; 7] = [
     Task {
@@ -227,6 +239,7 @@ const TASKS: [Task<'static>; 7] = [
             EXPLAIN,
             SHORT,
             ALL,
+            DEEP,
             ALIGNED,
             CHRONOGRAM,
             FROM,
@@ -290,6 +303,7 @@ const TASKS: [Task<'static>; 7] = [
             Argument::Workers,
             PROGRESS,
             ITEMS,
+            STATS,
             SITE_VCD,
             Argument::Always,
             PROGRAM,

@@ -44,6 +44,8 @@ pub struct EvalRequest<'a> {
     pub table: &'a str,
     /// Whether all main variables are reported, and not the outputs alone.
     pub all: bool,
+    /// Whether the variables of all instances of called nodes are reported too.
+    pub deep: bool,
     /// Whether they are reported as a chart.
     pub chronogram: bool,
     /// The first instant of the chart, counted from 0, where it is given.
@@ -193,6 +195,8 @@ pub struct RunRequest<'a> {
     pub progress: bool,
     /// Whether values are passed one by one, also where the sites could work in blocks.
     pub items: bool,
+    /// Whether it is reported on the error stream what the sites and the links did.
+    pub stats: bool,
     /// The path of the file that a dump of its outputs goes into, where one is asked for.
     pub vcd: Option<&'a str>,
     /// The names of the outputs that are observed, in the order of the words.
@@ -299,6 +303,7 @@ fn eval_in<'m, 'a: 'm>(matches: &'m ArgMatches<'a>) -> EvalRequest<'m>
         program: text(matches, "PROGRAM"),
         table: text(matches, "TABLE"),
         all: is_given(matches, "all"),
+        deep: is_given(matches, "deep"),
         chronogram: is_given(matches, "chronogram"),
         from: instant_in(matches, "from"),
         to: instant_in(matches, "to"),
@@ -485,6 +490,7 @@ fn run_in<'m, 'a: 'm>(matches: &'m ArgMatches<'a>) -> RunRequest<'m>
         workers: workers_in(matches),
         progress: is_given(matches, "progress"),
         items: is_given(matches, "items"),
+        stats: is_given(matches, "stats"),
         vcd: vcd_in(matches),
         always: texts(matches, "always"),
     }

@@ -4,6 +4,7 @@ use mathlib.Core.List.{IsPrefix}
 use Rattle.crossbeam_channel.specs.Claims.{view as known, IsSeatAt}
 use Rattle.crossbeam_channel.specs.Ends.{sends_on, receives_on, ruled_capacity}
 use Rattle.lulink.specs.Lists.{list_of}
+use Rattle.lulink.specs.Counts.{uncounted}
 use Rattle.lulink.specs.Views.{SenderView, ReceiverView}
 use Rattle.test_channel_link.specs.Links.{sender, receiver}
 use Rattle.test_channel_link.specs.declared.sender.Tx.TheInside as tx
@@ -17,6 +18,7 @@ sender_view t = record {
   ring = (sends_on t.end).stamps.shared.table_id;
   put = (known t.link_pass).done;
   seen = [];
+  counts = uncounted;
 }
 
 abbrev pub receiver_view : rx.Inside → ReceiverView
@@ -27,6 +29,7 @@ receiver_view t = record {
   ring = (receives_on t.end).stamps.shared.table_id;
   taken = (known t.link_pass).done;
   seen = [];
+  counts = uncounted;
 }
 
 abbrev pub IsSender : tx.Inside → Type 0

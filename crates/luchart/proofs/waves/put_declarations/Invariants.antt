@@ -1,9 +1,11 @@
-use Rattle.std.proofs.Common.{◌≡◌, ◌++◌, flat_map, string_bytes}
-use Rattle.std.specs.Prelude.{slice_get}
-use Rattle.std.specs.List.{range_with_len}
+use Rattle.std.proofs.Common.{◌≡◌, ◌++◌, drop, string_bytes}
+use denote.Text.{Utf8}
+use denote.Shadow.{shadow}
 use Rattle.luchart.specs.Signals.{signals_view}
-use Rattle.luchart.specs.Dump.{declaration, made_of}
+use Rattle.luchart.specs.Scopes.{scopes}
+use Rattle.luchart.specs.Dump.{declarations, scoped}
 use Rattle.luchart.proofs.waves.put_declarations.Given as goal
 
 abbrev pub invariant-loop-k : goal.invariant-loop-k
-invariant-loop-k l = string_bytes l.text ≡ string_bytes l.initial.text ++ flat_map (λ k. made_of (declaration k) (slice_get (signals_view l.signals) k)) (range_with_len 0 l.k)
+invariant-loop-k l = shadow (Utf8 l.before)
+    × (string_bytes l.text ++ scoped (scopes l.before) l.k (drop l.k (signals_view l.signals)) ≡ string_bytes l.initial.text ++ declarations (signals_view l.signals))

@@ -2,42 +2,35 @@ use Rattle.std.proofs.Common.{inl, inr}
 use Rattle.std.proofs.lemmas.Result.{err_from_is_err_and}
 use Rattle.lusdist_answers.proofs.HasOutputs.{some_output}
 use Rattle.lusdist_answers.proofs.Stops.{at_program_none, at_table_none, stops_at_table}
-use Rattle.lusdist_answers.proofs.Outcomes.{posed, observe_none}
+use Rattle.lusdist_answers.proofs.Outcomes.{flat_shown, memory_none, posed_at, observe_none}
 use Rattle.lusdist_call.specs.Stopped.IsEvalStopped.{eval_program, eval_unobserved, eval_memory}
 use Rattle.lusdist_answers.proofs.answering.posed.Goals as goal
 
 pub returns-clause-posed : goal.returns-clause-posed
 returns-clause-posed g c =
-    let at = c.in_ok-flat.ensures.flat in
+    let at = c.in_ok-flat.ensures.shown in
     let here = c.in_ok-inputs.ensures.table in
-    record {
-      program = at.program;
-      table = here.table;
-      program_given = at.given;
-      table_given = here.given;
-      tree = at.flat_is.tree;
-      posed = posed at.program c.args.request.main.now here.table at.flat_is.tree c.in_ok-flat.flat c.in_ok-inputs.inputs at.flat_is.spelled at.flat_is.flat_is here.text here.short here.utf8 here.fits;
-    }
+    record { posed = posed_at (g.F.Files.gives c.args.files.now) c.args.request c.in_ok-flat.flat c.in_ok-inputs.inputs (flat_shown (g.F.Files.gives c.args.files.now) c.args.request c.in_ok-flat.flat c.in_ok-flat.list.items at) here; list_of = at.has.list_of }
 
 pub returns-clause-some : goal.returns-clause-some
 returns-clause-some g c =
-    let at = c.in_ok-flat.ensures.flat in
-    some_output at.program c.args.request.main.now at.flat_is.tree c.in_ok-flat.flat at.flat_is.spelled at.flat_is.flat_is
+    let at = c.in_ok-flat.ensures.shown in
+    some_output at.program c.args.request.main.now at.has.has.tree c.in_ok-flat.flat at.has.has.spelled at.has.has.flat_is
 
 pub returns-in_err-flat-clause-stopped : goal.returns-in_err-flat-clause-stopped
 returns-in_err-flat-clause-stopped g c =
     let p = err_from_is_err_and c.from_residual.result c.from_residual.ensures.1 in
-    rw (p.1, p.2) (eval_program c.in_err-flat.ensures.stopped)
+    rw (p.1, p.2) (elim c.in_err-flat.ensures.stopped [ inl memory ↦ eval_memory memory | inr none ↦ eval_program none ])
 
 pub returns-in_err-inputs-clause-stopped : goal.returns-in_err-inputs-clause-stopped
 returns-in_err-inputs-clause-stopped g c =
     let p = err_from_is_err_and c.from_residual-in_err-inputs.result c.from_residual-in_err-inputs.ensures.1 in
-    rw (p.1, p.2) (stops_at_table (g.F.Files.gives c.args.files.now) c.args.request c.in_ok-flat.flat _ c.in_ok-flat.ensures.flat c.in_err-inputs.ensures.stopped)
+    rw (p.1, p.2) (stops_at_table (g.F.Files.gives c.args.files.now) c.args.request c.in_ok-flat.flat _ (flat_shown (g.F.Files.gives c.args.files.now) c.args.request c.in_ok-flat.flat c.in_ok-flat.list.items c.in_ok-flat.ensures.shown) c.in_err-inputs.ensures.stopped)
 
 pub returns-in_err-flat-clause-no_fault : goal.returns-in_err-flat-clause-no_fault
 returns-in_err-flat-clause-no_fault g c =
     let p = err_from_is_err_and c.from_residual.result c.from_residual.ensures.1 in
-    rw (p.1, p.2) (at_program_none (g.F.Files.gives c.args.files.now) c.args.request.program.now c.args.request.main.now _ c.in_err-flat.ensures.stopped)
+    rw (p.1, p.2) (elim c.in_err-flat.ensures.stopped [ inl memory ↦ memory_none _ memory | inr none ↦ at_program_none (g.F.Files.gives c.args.files.now) c.args.request.program.now c.args.request.main.now _ none ])
 
 pub returns-in_err-inputs-clause-no_fault : goal.returns-in_err-inputs-clause-no_fault
 returns-in_err-inputs-clause-no_fault g c =
@@ -47,19 +40,12 @@ returns-in_err-inputs-clause-no_fault g c =
 pub returns-in_err-observe-clause-stopped : goal.returns-in_err-observe-clause-stopped
 returns-in_err-observe-clause-stopped g c =
     let p = err_from_is_err_and c.from_residual-in_err-observe.result c.from_residual-in_err-observe.ensures.1 in
-    let at = c.in_ok-flat.ensures.flat in
+    let at = c.in_ok-flat.ensures.shown in
     let here = c.in_ok-inputs.ensures.table in
     rw (p.1, p.2) (elim c.in_err-observe.ensures.stopped [
       | inl memory ↦ eval_memory memory
       | inr un ↦ eval_unobserved c.in_ok-flat.flat c.in_ok-inputs.inputs
-          (record {
-            program = at.program;
-            table = here.table;
-            program_given = at.given;
-            table_given = here.given;
-            tree = at.flat_is.tree;
-            posed = posed at.program c.args.request.main.now here.table at.flat_is.tree c.in_ok-flat.flat c.in_ok-inputs.inputs at.flat_is.spelled at.flat_is.flat_is here.text here.short here.utf8 here.fits;
-          })
+          (posed_at (g.F.Files.gives c.args.files.now) c.args.request c.in_ok-flat.flat c.in_ok-inputs.inputs (flat_shown (g.F.Files.gives c.args.files.now) c.args.request c.in_ok-flat.flat c.in_ok-flat.list.items at) here)
           un
     ])
 

@@ -3,7 +3,6 @@ use Rattle.luflow.specs.Program.{InputsView}
 use Rattle.luflow.specs.Sound.{IsFit}
 use Rattle.lueval_lines.specs.declared.error.EvalError.TheVariants.{Fault}
 use Rattle.lueval.specs.Whole.{IsAnswer}
-use Rattle.lutab.specs.Outputs.{shown_of}
 use Rattle.luchart.proofs.CutLaws.{fit}
 use Rattle.lusdist_call.specs.Evaluated.{AreEvaluated}
 use Rattle.lusdist_answers.proofs.Outcomes.{are_before, cut_fine}
@@ -30,6 +29,6 @@ returns-in-Ok c =
     let flat = c.args.flat.now in
     let inputs = c.args.inputs.now in
     let n = c.args.instant in
-    let xs = shown_of c.args.all flat.variables in
-    are_before flat inputs xs n c.in-Ok.columns c.recall_invariant.ensures c.requires.early
-    (subst (λ (t : InputsView). AreEvaluated flat t xs t.instants c.in-Ok.columns) c.in_ok-before.ensures c.in-Ok.ensures.columns)
+    let list = c.args.list.now in
+    are_before c.args.request.deep c.args.request.all flat inputs list n c.in-Ok.columns c.recall_invariant.ensures c.requires.list c.requires.early
+    (subst (λ (t : InputsView). AreEvaluated flat t list t.instants c.in-Ok.columns) c.in_ok-before.ensures c.in-Ok.ensures.columns)

@@ -1,0 +1,5 @@
+mod Calling
+mod Paths
+mod Listing
+mod Taken
+pub mod Deep
