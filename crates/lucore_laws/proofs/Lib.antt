@@ -9,7 +9,7 @@ mod Placing
 mod Instances
 pub mod ToFlat
 pub mod Each
-mod Open
+pub mod Open
 pub mod Names
 pub mod Well
 pub mod Spots
@@ -23,14 +23,14 @@ mod ListToFlat
 pub mod NodeToFlat
 pub mod Static
 pub mod NodeStatic
-mod Gate
+pub mod Gate
 pub mod Whole
 pub mod Same
 pub mod Closed
 pub mod Counting
 mod ListNodes
 pub mod There
-mod SourceFaults
+pub mod SourceFaults
 pub mod NodeFaults
 mod Deciding
 mod Counts

@@ -99,7 +99,7 @@ module _ (p : ProgramTree) (lists : List (List Flow)) (node : NodeTree) (facts :
   known_one x None e = tt
   known_one x (Some c) e = facts.clocks x c e
 
-  clock_known : (x : List ℕ) → IsKnown (clock_of node x)
+  pub clock_known : (x : List ℕ) → IsKnown (clock_of node x)
   clock_known x =
       ⊎_elim (λ (h : clock_of node x ≡ None). subst IsKnown (sym h) tt)
       (λ (h : option_map (λ (d : DeclarationTree). d.clock) (rules.meaning node x) ≡ Some (clock_of node x)). known_one x (clock_of node x) h)
@@ -217,7 +217,7 @@ module _ (p : ProgramTree) (lists : List (List Flow)) (node : NodeTree) (facts :
   abbrev nv : ℕ
   nv = variable_count p lists node
 
-  inner_hold : Solves base m (node_flows p lists node) → Hold base m nv (inner_flows p lists node node.equations nv)
+  pub inner_hold : Solves base m (node_flows p lists node) → Hold base m nv (inner_flows p lists node node.equations nv)
   inner_hold sol =
       let inner = inner_flows p lists node node.equations nv in
       let h = subst (Hold base m 0) (parts p lists node) (solves_hold base m (node_flows p lists node) sol) in
@@ -289,22 +289,22 @@ module _ (p : ProgramTree) (lists : List (List Flow)) (node : NodeTree) (facts :
       (cases_lt x nv)
 
 module _ (p : ProgramTree) (lists : List (List Flow)) (are : AreLists p lists) (facts : (f : List ℕ) (n : NodeTree) → node_called p f ≡ Some n → NodeFacts p n) (never : (f : List ℕ) → ¬ Reaches p f f) (t : ℕ) (kind : FaultKind) where
-  apart : (f : List ℕ) (n : NodeTree) → node_called p f ≡ Some n → AreDistinct (variables_of n)
+  pub apart : (f : List ℕ) (n : NodeTree) → node_called p f ≡ Some n → AreDistinct (variables_of n)
   apart f n e = (facts f n e).apart
 
   -- the instance of each call stands at its spot
-  placed : (f : List ℕ) (node : NodeTree) → node_called p f ≡ Some node → (τ : Streams) (σ : SourceStreams) → HasInstances p lists f τ σ → (i : ℕ) (spot : Spot) → slice_get (node_spots p lists node) i ≡ Some spot → HasInstances p lists spot.node (λ y. τ (spot.at + y)) (λ path. σ (i ∷ path))
+  pub placed : (f : List ℕ) (node : NodeTree) → node_called p f ≡ Some node → (τ : Streams) (σ : SourceStreams) → HasInstances p lists f τ σ → (i : ℕ) (spot : Spot) → slice_get (node_spots p lists node) i ≡ Some spot → HasInstances p lists spot.node (λ y. τ (spot.at + y)) (λ path. σ (i ∷ path))
   placed f node found τ σ has i spot e path n x here c =
       let there : slice_get (spots_in p lists (node_called p f)) i ≡ Some spot = ap (λ o. slice_get (spots_in p lists o) i) found ∙ e in
       let named = spot_named p lists (node_called p f) i ∙ ap (option_map spot_node) there in
       let h = has (i ∷ path) n x (ap (option_and_then (λ g. instance_at p g path)) named ∙ here) c in
       ap (λ o. τ (spot_place o (λ spot. spot.at + flow_place p lists spot.node path x))) (sym there) ∙ h
 
-  agree : (f : List ℕ) (node : NodeTree) → node_called p f ≡ Some node → (τ : Streams) (σ : SourceStreams) → HasInstances p lists f τ σ → (x : List ℕ) → Known p node (Below node) x → τ (variable_place p lists node x) ≡ σ [] x
+  pub agree : (f : List ℕ) (node : NodeTree) → node_called p f ≡ Some node → (τ : Streams) (σ : SourceStreams) → HasInstances p lists f τ σ → (x : List ℕ) → Known p node (Below node) x → τ (variable_place p lists node x) ≡ σ [] x
   agree f node found τ σ has x lt =
       ap (λ o. τ (place_named o x)) (sym found) ∙ has [] node x found (contains_get (variables_of node) x (place_of (variables_of node) x) (get_place (variables_of node) x lt))
 
-  all_placed : (f : List ℕ) (node : NodeTree) → node_called p f ≡ Some node → (τ : Streams) (σ : SourceStreams) → HasInstances p lists f τ σ → Each (λ i spot. HasInstances p lists spot.node (λ y. τ (spot.at + y)) (λ path. σ (i ∷ path))) 0 (node_spots p lists node)
+  pub all_placed : (f : List ℕ) (node : NodeTree) → node_called p f ≡ Some node → (τ : Streams) (σ : SourceStreams) → HasInstances p lists f τ σ → Each (λ i spot. HasInstances p lists spot.node (λ y. τ (spot.at + y)) (λ path. σ (i ∷ path))) 0 (node_spots p lists node)
   all_placed f node found τ σ has =
       each_all (λ i spot. HasInstances p lists spot.node (λ y. τ (spot.at + y)) (λ path. σ (i ∷ path))) 0 (node_spots p lists node) (λ i spot e.
       let z : i ≡ 0 + i = omega arith in
@@ -324,7 +324,7 @@ module _ (p : ProgramTree) (lists : List (List Flow)) (are : AreLists p lists) (
   pub reported_all : (f : List ℕ) → ReportsAndShows p lists t kind f
   reported_all = by_calls p never (ReportsAndShows p lists t kind) step
 
-clock_same : (inputs : InputsView) (τ : Streams) (c : Clock) (t : ℕ) → clock_at inputs τ c t ≡ clock_ticks (base_clock inputs) τ c t
+pub clock_same : (inputs : InputsView) (τ : Streams) (c : Clock) (t : ℕ) → clock_at inputs τ c t ≡ clock_ticks (base_clock inputs) τ c t
 clock_same inputs τ Base t = refl
 clock_same inputs τ (On c d) t = refl
 

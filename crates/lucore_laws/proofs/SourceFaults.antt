@@ -79,7 +79,7 @@ form_moved τ t kind b arguments (Current x) h = h
 form_moved τ t kind b arguments (Merge c xs) h = h
 
 -- a moved flow is at fault where the flow is
-flow_moved : (base : Ticks) (m : Model) (t : ℕ) (kind : FaultKind) (b : ℕ) (k : Clock) (arguments : List ℕ) (f : Flow) → FlowFails base m t kind (moved b k arguments f) → FlowFails (clock_ticks base m.on k) (moved_model m b arguments) t kind f
+pub flow_moved : (base : Ticks) (m : Model) (t : ℕ) (kind : FaultKind) (b : ℕ) (k : Clock) (arguments : List ℕ) (f : Flow) → FlowFails base m t kind (moved b k arguments f) → FlowFails (clock_ticks base m.on k) (moved_model m b arguments) t kind f
 flow_moved base m t kind b k arguments f h =
     (ap (λ (c : Ticks). c t) (sym (clock_moved base m.on b k f.clock)) ∙ h.0, form_moved m.on t kind b arguments f.form h.1)
 
@@ -207,14 +207,14 @@ module _ (p : ProgramTree) (lists : List (List Flow)) (node : NodeTree) (Below :
   found_operand inner (own f) (inr h) = found_right inner (f ∷ []) (0, f, refl, h)
   found_operand inner (at x) (inr h) = absurd h
 
-  ticks_agree : (k : Option Condition) → KnownClock k → clock_ticks base m.on (clock_place node k) ≡ ticks base var k
+  pub ticks_agree : (k : Option Condition) → KnownClock k → clock_ticks base m.on (clock_place node k) ≡ ticks base var k
   ticks_agree None known = refl
   ticks_agree (Some c) known = ap {B = Ticks} (λ (s : Stream) t. truth_in (pattern_value c.pattern) (s t)) (agree c.variable known)
 
   seen_leaf : (f : Flow) (i w : ℕ) (val : ℕ → Stream) (G F : Type 0) → ((j : ℕ) → flow_stream base m f ≡ val j) → (FlowFails base m t kind f → G) → (F → FlowFails base m t kind f) → Seen (leaf f) no_spots i w val G F
   seen_leaf f i w val G F h g b s placed hold = (λ j lt. h j, (tt, g), λ x. inr (b x))
 
-  operand_at : (s : ℕ) (inner : List Flow) (root : Root) (v : Stream) → Hold base m s (inner ++ root_flows root) → root_stream base m root 0 ≡ v → m.on (root_place (s + length inner) root) ≡ v
+  pub operand_at : (s : ℕ) (inner : List Flow) (root : Root) (v : Stream) → Hold base m s (inner ++ root_flows root) → root_stream base m root 0 ≡ v → m.on (root_place (s + length inner) root) ≡ v
   operand_at s inner (own f) v hold e = (each_right (FlowHolds base m) s inner (f ∷ []) hold).0 ∙ e
   operand_at s inner (at a) v hold e = let z : a ≡ a + 0 = omega arith in ap m.on z ∙ e
 
@@ -290,10 +290,10 @@ module _ (p : ProgramTree) (lists : List (List Flow)) (node : NodeTree) (Below :
   abbrev val : Tree → Option Condition → ℕ → Stream
   val e k i = value p node base var below e k i
 
-  is_value : (e : Tree) (k : Option Condition) (i x : ℕ) → m.on x ≡ output p node base var below e k i 0 → m.on x ≡ val e k i
+  pub is_value : (e : Tree) (k : Option Condition) (i x : ℕ) → m.on x ≡ output p node base var below e k i 0 → m.on x ≡ val e k i
   is_value e k i x h = h ∙ output_value p node base var below e k i
 
-  at_instant : (e : Tree) (k : Option Condition) (i x : ℕ) (d : Datum) → m.on x ≡ output p node base var below e k i 0 → m.on x t ≡ streams.Known (Present d) → val e k i t ≡ streams.Known (Present d)
+  pub at_instant : (e : Tree) (k : Option Condition) (i x : ℕ) (d : Datum) → m.on x ≡ output p node base var below e k i 0 → m.on x t ≡ streams.Known (Present d) → val e k i t ≡ streams.Known (Present d)
   at_instant e k i x d h present = ap (λ (s : Stream). s t) (sym (is_value e k i x h)) ∙ present
 
   from_instant : (e : Tree) (k : Option Condition) (i x : ℕ) (d : Datum) → m.on x ≡ output p node base var below e k i 0 → val e k i t ≡ streams.Known (Present d) → m.on x t ≡ streams.Known (Present d)
@@ -312,7 +312,7 @@ module _ (p : ProgramTree) (lists : List (List Flow)) (node : NodeTree) (Below :
   abbrev pub SomeBranch : List ℕ → List Pattern → Trees → ℕ → Type 0
   SomeBranch c ps all i = (depth : ℕ) × BranchFails depth c ps all i
 
-  clock_then : (k : Option Condition) → KnownClock k → clock_ticks base m.on (clock_place node k) t ≡ Some true → K k t ≡ Some true
+  pub clock_then : (k : Option Condition) → KnownClock k → clock_ticks base m.on (clock_place node k) t ≡ Some true → K k t ≡ Some true
   clock_then k known h = ap (λ (c : Ticks). c t) (sym (ticks_agree k known)) ∙ h
 
   more_way : (a : Tree) (all : Trees) (k : Option Condition) (i : ℕ) (FR : Type 0) → SomeAny (tree.more a all) k i ⊎ FR → SomeFail a k i ⊎ (SomeAny all k (i + calls a) ⊎ FR)

@@ -94,7 +94,7 @@ module _ (p : ProgramTree) where
         ap (λ n. calls x s ++ (all_starts p sizes all (s + size x) ++ str n)) z ∙ sym (append_assoc (calls x s) (all_starts p sizes all (s + size x)) (str (s + (size x + ma))))
 
     mutual
-      fits : (e : Tree) (k : Option Condition) → All Counts (calls_in e) → Fits (walk_of e k) (spots_of e k) (size e) (root_size e) (calls e)
+      pub fits : (e : Tree) (k : Option Condition) → All Counts (calls_in e) → Fits (walk_of e k) (spots_of e k) (size e) (root_size e) (calls e)
       fits (tree.number n) k h = λ s. (refl, refl, refl)
       fits (tree.truth c) k h = λ s. (refl, refl, refl)
       fits (tree.label x) k h = λ s. (refl, refl, refl)

@@ -30,24 +30,24 @@ use Rattle.luinside.proofs.Standing.{Found, all_found}
 use Rattle.luinside.proofs.Complete.{all_listed, short, increasing, ordered, once}
 
 module _ (p : ProgramTree) (main : List ℕ) (flat : FlatView) (is : IsFlatOf p main flat) (counts : List ℕ) (counted : AreCounted p counts) where
-  abbrev lists : List (List Flow)
+  abbrev pub lists : List (List Flow)
   lists = is.laid_out.lists
 
-  something : DefineSomething p
+  pub something : DefineSomething p
   something i j node q n e = ((is.accepted Rule.wrong_arity).equations i j node q n e).some
 
-  never : (f : List ℕ) → ¬ Reaches p f f
+  pub never : (f : List ℕ) → ¬ Reaches p f f
   never f = never_round p main is.accepted something f
 
   -- a list is as long as its size says
-  long : (f : List ℕ) → length (list_of p lists f) ≡ size_of p counted.0 f
+  pub long : (f : List ℕ) → length (list_of p lists f) ≡ size_of p counted.0 f
   long f = counting.counted p lists counted.0 is.laid_out.are_lists counted.1 never f
 
   main_long : flows_of flat ≡ length (list_of p lists main)
   main_long = ap length is.laid_out.flows ∙ sym (ap length (listed p lists is.laid_out.are_lists main is.laid_out.node is.laid_out.is_main))
 
   -- the main node is small
-  few : (i : ℕ) → node_place p main ≡ Some i → slice_index counts i ≤ 4096
+  pub few : (i : ℕ) → node_place p main ≡ Some i → slice_index counts i ≤ 4096
   few i at_place =
       let l = long main in
       let m = main_long in

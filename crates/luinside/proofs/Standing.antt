@@ -90,13 +90,13 @@ module _ (p : ProgramTree) (lists : List (List Flow)) (are : AreLists p lists) w
       called : node_called p f ≡ Some n
       called = (means p f i at_place).called
 
-      ends : (k : ℕ) (c : CallStart) → slice_get (node_starts p counts n) k ≡ Some c → c.at + size_at counts c.node ≤ slice_index counts i
+      pub ends : (k : ℕ) (c : CallStart) → slice_get (node_starts p counts n) k ≡ Some c → c.at + size_at counts c.node ≤ slice_index counts i
       ends k c e =
           let b = bounds i n there small in
           let h = all_at (Inside p counts (node_size p counts n)) (node_starts p counts n) k c (within_node p counts n) e in
           omega (arith, b, h)
 
-      called_small : (g : List ℕ) → Contains (called_by n) g → length (list_of p lists g) ≡ size_of p counts g
+      pub called_small : (g : List ℕ) → Contains (called_by n) g → length (list_of p lists g) ≡ size_of p counts g
       called_small g has =
           let at = contains_at (called_by n) g has in
           let c = start_at p counts n at.0 g at.1 in

@@ -1,0 +1,15 @@
+pub mod Operands
+pub mod Descent
+pub mod Finding
+pub mod Equations
+pub mod CallSites
+pub mod Failing
+pub mod Standing
+pub mod Instances
+pub mod Passed
+pub mod Sought
+pub mod Following
+pub mod Stepped
+pub mod Evaluating
+pub mod Ageing
+pub mod Answered
