@@ -17,7 +17,7 @@ _lusdist() {
             esac
             ;;
         eval)
-            flags='--main --explain --short --all --text --chronogram --from --to --vcd --always --help'
+            flags='--main --explain --short --all --deep --text --chronogram --from --to --vcd --always --help'
             endings=(lus csv)
             case $before in
                 --main) COMPREPLY=(); return ;;
@@ -56,7 +56,7 @@ _lusdist() {
             esac
             ;;
         run)
-            flags='--main --explain --short --workers --progress --items --vcd --always --help'
+            flags='--main --explain --short --workers --progress --items --stats --vcd --always --help'
             endings=(lus toml csv)
             case $before in
                 --main) COMPREPLY=(); return ;;

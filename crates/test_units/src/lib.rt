@@ -7,6 +7,7 @@
 //! - `surveys`: all faults of the first stage that has any (`lustat`).
 //! - `flats`: what a program that keeps all rules lends, and flat lists with their ranks and owners (`lustat`, `lucore`).
 //! - `inside`: instances of called nodes (`luinside`).
+//! - `faults`: where the first fault is, and which operator of the source that is (`lufault`).
 //! - `operators`: operators at data of the wrong types and at nil (`lueval`).
 //! - `streams`: tables that fit a program, its streams and outputs (`luflow`, `lueval`).
 //! - `values`: lists of values (`luflow`).
@@ -21,6 +22,8 @@
 
 #[cfg(test)]
 mod calls;
+#[cfg(test)]
+mod faults;
 #[cfg(test)]
 mod flats;
 #[cfg(test)]
