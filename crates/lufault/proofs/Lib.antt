@@ -13,3 +13,4 @@ pub mod Stepped
 pub mod Evaluating
 pub mod Ageing
 pub mod Answered
+pub mod Told

@@ -6,4 +6,5 @@ pub mod Passing
 pub mod Standing
 pub mod Steps
 pub mod Faults
+pub mod First
 pub mod Running
