@@ -65,25 +65,24 @@ module _ (p : ProgramTree) (main : List ℕ) (flat : FlatView) (inputs : InputsV
       let τ = solution flat inputs in
       let one = IsSolution-solution flat inputs is_flat.ordered in
       let f = first τ one in
-      let same : site.reads ≡ f.reads = same_Some site.reads f.reads (reads flat flat_of ∙ f.reads_are) in
-      (
+      let same : site.reads ≡ f.reads = same_Some site.reads f.reads (reads flat flat_of ∙ f.reads_are) in (
         first,
         λ σ sol.
-        let h = faults flat flat_of inputs σ τ sol one found.instant found.kind f.fault in
-        record {
-          node = h.node;
-          is_node = h.is_node;
-          at_path = h.at_path;
-          equation = h.equation;
-          is_equation = h.is_equation;
-          part = h.part;
-          is_part = h.is_part;
-          base = h.base;
-          given = h.given;
-          holds = h.holds;
-          fails = with_data p h.node h.base (σ site.path) (λ i. σ (site.path ++ i ∷ [])) τ site.reads found h.part.expression h.part.clock h.part.before h.fails
-              (subst (λ (r : Reads). τ r.left found.instant ≡ Known (Present found.left)) (sym same) f.left) (subst (λ (r : Reads). HasSecond τ found.instant r.right found.right) (sym same) f.right);
-        },
+            let h = faults flat flat_of inputs σ τ sol one found.instant found.kind f.fault in
+            record {
+              node = h.node;
+              is_node = h.is_node;
+              at_path = h.at_path;
+              equation = h.equation;
+              is_equation = h.is_equation;
+              part = h.part;
+              is_part = h.is_part;
+              base = h.base;
+              given = h.given;
+              holds = h.holds;
+              fails = with_data p h.node h.base (σ site.path) (λ i. σ (site.path ++ i ∷ [])) τ site.reads found h.part.expression h.part.clock h.part.before h.fails
+                  (subst (λ (r : Reads). τ r.left found.instant ≡ Known (Present found.left)) (sym same) f.left) (subst (λ (r : Reads). HasSecond τ found.instant r.right found.right) (sym same) f.right);
+            },
       )
 
   pub always_found : ReadsAsItsFlow p main found.place None → ⊥

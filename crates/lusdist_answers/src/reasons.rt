@@ -1,27 +1,33 @@
 //! Why a text is refused.
 
-ghost use Rattle.std.specs.Prelude.{◌≡◌, List, ℕ, IfOk};
-ghost use Rattle.lusdist_call.specs.Reasons.{program_path, place_path, table_path, schedule_path, blamed_path, main_name, AreFaultsAt, AreRefusalsAt, IsReason};
+ghost use Rattle.std.specs.Prelude.{◌≡◌, ◌++◌, List, ℕ, IfOk, string_bytes};
+ghost use Rattle.lutree.specs.Tree.{program_view};
+ghost use Rattle.luflow.specs.Sound.{IsFit};
+ghost use Rattle.lucore.specs.Result.{IsFlatOf};
+ghost use Rattle.luexplain.specs.Place.{place};
+ghost use Rattle.lusdist_call.specs.Faulted.{IsFaultReason, StandsForFault};
+ghost use Rattle.lusdist_call.specs.Reasons.{program_path, place_path, table_path, schedule_path, main_name, AreFaultsAt, AreRefusalsAt, IsReason, IsReasonOf};
 ghost use Rattle.lusdist_call.specs.declared.call_error.CallError.TheVariants as stops;
 ghost use Rattle.lucore.specs.declared.error.CoreError.TheVariants as flats;
 
-use crate::sources::program_of;
+use crate::sources::{checked_flat, inputs_at, program_of};
 use lubase::Name;
 use lucore::CoreError;
 use luexplain::{
     Explanation, SyntaxRefusal, all_refusals, of_cycle, of_fault, of_place, of_rule, of_schedule,
-    of_size, of_syntax, of_table, of_unread,
+    of_size, of_syntax, of_table, of_unread, where_in,
 };
-use luflow::FaultKind;
+use lufault_text::{Telling, ToldFault, told_fault};
+use luflow::{FaultKind, Flat, Inputs};
 use luplace_file::PlaceError;
 use lusdist_call::{CallError, read};
-use lusdist_shell::{Files, ReadError, Request, ScheduleError};
-use lustat::all_faults;
+use lusdist_shell::{Files, ReadError, Request, ScheduleError, text_of};
+use lustat::{Checked, all_faults};
 use lustat_rules::StatError;
 use lusyn::SynError;
 use lutab::TabError;
 use lutree::Program;
-use std::alloc::Global;
+use std::alloc::{AllocError, Global};
 
 /// The paths that a request names, each empty where it names none, and its main node.
 #[derive(Clone, Copy)]
@@ -137,22 +143,86 @@ fn of_flat<F: Files>(
     }
 }
 
-/// Where an operator has no value.
-fn of_value<F: Files>(
+/// The reason of a fault, at its operator, with what is told of that.
+fn at_operator(
     alloc: Global,
-    files: &F,
     path: &str,
-    main: &str,
+    text: &[u8],
+    told: &ToldFault,
+    reason: Explanation,
+) -> Result<Explanation, AllocError>
+    ensures { IfOk result (λ found. string_bytes found.place
+        ≡ place path.now text.now told.now.byte ++ string_bytes told.now.lines) }
+{
+    let mut place = where_in(alloc, path, text, told.byte)?;
+    place.push_str(told.lines.as_str())?;
+    let Explanation {
+        place: _,
+        what,
+        mend,
+    } = reason;
+    Ok(Explanation { place, what, mend })
+}
+
+/// What is told of a fault of a program and its table, and the reason of it by its equation.
+fn told_of(
+    alloc: Global,
+    asked: Asked<'_>,
+    bytes: &[u8],
+    program: &Checked<'_>,
+    flat: &Flat,
+    inputs: &Inputs,
     variable: &str,
     instant: u32,
     kind: FaultKind,
 ) -> Result<Explanation, CallError>
-    ensures { IfOk result (IsReason (F.gives files.now) path.now
-        (stops.Fault variable.now instant kind)) }
+    requires flat { IsFlatOf (program_view program.now.program) program.now.main flat.now }
+    requires fit { IsFit flat.now inputs.now }
+    ensures { IfOk result (λ reason. StandsForFault asked.entry.program.now bytes.now
+        program.now.main program.now.program flat.now inputs.now variable.now instant kind
+        (string_bytes reason.place)) }
 {
-    let text = read(alloc, files, path)?;
-    let program = program_of(alloc, &text)?;
-    Ok(of_fault(alloc, path, &text, &program, main, variable, instant, kind)?)
+    let Some(text) = text_of(bytes) else {
+        return Err(CallError::NotAscii);
+    };
+    let telling = told_fault(alloc, text, program, flat, inputs, variable, instant, kind)?;
+    let lent = program.program();
+    let reason = of_fault(
+        alloc,
+        asked.program,
+        bytes,
+        lent,
+        asked.main,
+        variable,
+        instant,
+        kind,
+    )?;
+    match telling {
+        Telling::Whole(told) => Ok(at_operator(alloc, asked.program, bytes, &told, reason)?),
+        Telling::Other => Ok(reason),
+        Telling::Unclear => Err(CallError::OutOfMemory),
+    }
+}
+
+/// Where an operator has no value.
+fn of_value<F: Files>(
+    alloc: Global,
+    files: &F,
+    asked: Asked<'_>,
+    variable: &str,
+    instant: u32,
+    kind: FaultKind,
+) -> Result<Explanation, CallError>
+    ensures { IfOk result (IsFaultReason (F.gives files.now) asked.entry.program.now
+        asked.entry.main.now asked.entry.table.now variable.now instant kind) }
+{
+    let bytes = read(alloc, files, asked.program)?;
+    let program = program_of(alloc, &bytes)?;
+    let (checked, flat) = checked_flat(alloc, &program, asked.main)?;
+    let inputs = inputs_at(alloc, files, &flat, asked.table)?;
+    told_of(
+        alloc, asked, &bytes, &checked, &flat, &inputs, variable, instant, kind,
+    )
 }
 
 /// The program of a file that is read again.
@@ -212,8 +282,7 @@ pub fn reason<F: Files>(
     request: Request<'_>,
     stop: &CallError,
 ) -> Result<Explanation, CallError>
-    ensures { IfOk result (IsReason (F.gives files.now)
-        (blamed_path request.entry stop.now) stop.now) }
+    ensures { IfOk result (IsReasonOf (F.gives files.now) request.entry stop.now) }
 {
     let asked = asked_in(request);
     match stop {
@@ -229,15 +298,7 @@ pub fn reason<F: Files>(
             variable,
             instant,
             kind,
-        } => of_value(
-            alloc,
-            files,
-            asked.program,
-            asked.main,
-            variable.as_str(),
-            *instant,
-            *kind,
-        ),
+        } => of_value(alloc, files, asked, variable.as_str(), *instant, *kind),
         _ => Err(CallError::OutOfMemory),
     }
 }

@@ -5,7 +5,7 @@ ghost use Rattle.lustat_rules.specs.declared.error.StatError.{StatError};
 ghost use Rattle.luexplain.specs.declared.said.Explanation.{Explanation as AnyExplanation};
 ghost use Rattle.lusdist_call.specs.Lines.{line_of, is_inside_word, named};
 ghost use Rattle.luexplain.specs.declared.refused.SyntaxRefusal.{SyntaxRefusal as AnyRefusal};
-ghost use Rattle.lusdist_call.specs.Reasons.{all_told, asks_all, asks_all_places, asks_short, asks_why, blamed_path, count_text, explained_line, explained_text, main_name, program_path, short_line, short_text, told_of, AreFaultsAt, AreRefusalsAt, AreTold, HasRefusal, IsReason, IsRefusalText, IsTold};
+ghost use Rattle.lusdist_call.specs.Reasons.{all_told, asks_all, asks_all_places, asks_short, asks_why, count_text, explained_line, explained_text, main_name, program_path, short_line, short_text, told_of, AreFaultsAt, AreRefusalsAt, AreTold, HasRefusal, IsReasonOf, IsRefusalText, IsTold};
 ghost use Rattle.lusdist_call.specs.Statuses.{status_of};
 ghost use Rattle.lusdist_call.specs.declared.call_error.CallError.TheVariants as stops;
 ghost use Rattle.std.specs.List.{prefix_len};
@@ -125,7 +125,7 @@ fn asked_reason<F: Files>(
     request: Request<'_>,
     stop: &CallError,
 ) -> Option<Explanation>
-    ensures { IfSome result (IsReason (F.gives files.now) (blamed_path request.entry stop.now) stop.now) }
+    ensures { IfSome result (IsReasonOf (F.gives files.now) request.entry stop.now) }
 {
     match reason(alloc, files, request, stop) {
         Ok(reason) => Some(reason),

@@ -51,7 +51,7 @@ pub fn program_of(alloc: Global, bytes: &[u8]) -> Result<Program, CallError>
 }
 
 /// A program that keeps all rules, from its main node of this name, with its flat program.
-fn checked_flat<'a>(
+pub fn checked_flat<'a>(
     alloc: Global,
     program: &'a Program,
     main: &'a str,

@@ -1,4 +1,5 @@
 pub mod Left
+pub mod Faulted
 pub mod Reasons
 pub mod Explained
 pub mod Asked

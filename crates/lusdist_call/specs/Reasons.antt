@@ -27,7 +27,8 @@ use Rattle.lusdist_shell.specs.Sinks.{HasPut}
 use Rattle.lusdist_call.specs.Lines.{line_of, named}
 use Rattle.lusdist_call.specs.declared.call_error.CallError.{CallError}
 use Rattle.lusdist_call.specs.declared.call_error.CallError.TheVariants.{CannotRead, NotAscii, Syntax, Rules}
-use Rattle.lusdist_call.specs.declared.call_error.CallError.TheVariants.{Place, Table, Schedule}
+use Rattle.lusdist_call.specs.declared.call_error.CallError.TheVariants.{Place, Table, Schedule, Fault}
+use Rattle.lusdist_call.specs.Faulted.{IsFaultReason}
 use Rattle.lusdist_shell.specs.Files.{FileFacts}
 
 -- whether a request asks why a text is refused
@@ -124,11 +125,17 @@ abbrev pub IsGivenFor : FileFacts → List ℕ → CallError → List ℕ → Ty
 IsGivenFor gives path (CannotRead name) text = gives name None
 IsGivenFor gives path _ text = gives path (Some text)
 
--- The reason of a stop, by what the file of the path gave.
+-- the reason of a stop, by what the file of the path gave
 pub record IsReason (gives : FileFacts) (path : List ℕ) (stop : CallError) (reason : Explanation) : Type 0 where
   pub text : List ℕ
   pub given : IsGivenFor gives path stop text
   pub stands : StandsAt path text stop (string_bytes reason.place)
+
+-- the same of what a request asks for: of a fault by the program and the table
+abbrev pub IsReasonOf : FileFacts → Request → CallError → Explanation → Type 0
+IsReasonOf gives request (Fault variable instant kind) reason =
+    IsFaultReason gives (program_path request) (main_name request) (table_path request) variable instant kind reason
+IsReasonOf gives request stop reason = IsReason gives (blamed_path request stop) stop reason
 
 -- ONE REFUSAL
 
@@ -157,10 +164,10 @@ short_text stop = short_line (line_of stop)
 pub data IsTold (gives : FileFacts) (request : Request) (stop : CallError) (told : List ℕ) : Type 0 where
   alone : told ≡ line_of stop ++ codes "\n" → IsTold gives request stop told
   explained : (reason : Explanation) → asks_why request ≡ true → asks_short request ≡ false
-      → IsReason gives (blamed_path request stop) stop reason → told ≡ explained_text stop reason
+      → IsReasonOf gives request stop reason → told ≡ explained_text stop reason
       → IsTold gives request stop told
   short : (reason : Explanation) → asks_short request ≡ true
-      → IsReason gives (blamed_path request stop) stop reason → told ≡ short_text stop reason
+      → IsReasonOf gives request stop reason → told ≡ short_text stop reason
       → IsTold gives request stop told
 
 -- ALL FAULTS

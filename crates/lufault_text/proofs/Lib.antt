@@ -1,0 +1,2 @@
+pub mod Signing
+pub mod Wording
