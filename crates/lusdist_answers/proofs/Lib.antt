@@ -13,5 +13,6 @@ mod Stops
 mod Ends
 mod Headlines
 mod Tellings
+mod Faulting
 mod FirstNames
 mod Lists

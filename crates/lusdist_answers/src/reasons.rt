@@ -27,7 +27,7 @@ use lustat_rules::StatError;
 use lusyn::SynError;
 use lutab::TabError;
 use lutree::Program;
-use std::alloc::{AllocError, Global};
+use std::alloc::Global;
 
 /// The paths that a request names, each empty where it names none, and its main node.
 #[derive(Clone, Copy)]
@@ -150,7 +150,7 @@ fn at_operator(
     text: &[u8],
     told: &ToldFault,
     reason: Explanation,
-) -> Result<Explanation, AllocError>
+) -> Result<Explanation, CallError>
     ensures { IfOk result (λ found. string_bytes found.place
         ≡ place path.now text.now told.now.byte ++ string_bytes told.now.lines) }
 {
@@ -164,10 +164,10 @@ fn at_operator(
     Ok(Explanation { place, what, mend })
 }
 
-/// What is told of a fault of a program and its table, and the reason of it by its equation.
+/// The reason of a fault of a program at a table, where the program's file has these bytes.
 fn told_of(
     alloc: Global,
-    asked: Asked<'_>,
+    path: &str,
     bytes: &[u8],
     program: &Checked<'_>,
     flat: &Flat,
@@ -178,27 +178,18 @@ fn told_of(
 ) -> Result<Explanation, CallError>
     requires flat { IsFlatOf (program_view program.now.program) program.now.main flat.now }
     requires fit { IsFit flat.now inputs.now }
-    ensures { IfOk result (λ reason. StandsForFault asked.entry.program.now bytes.now
-        program.now.main program.now.program flat.now inputs.now variable.now instant kind
-        (string_bytes reason.place)) }
+    ensures { IfOk result (λ reason. StandsForFault path.now bytes.now program.now.main
+        program.now.program flat.now inputs.now variable.now instant kind (string_bytes reason.place)) }
 {
     let Some(text) = text_of(bytes) else {
         return Err(CallError::NotAscii);
     };
     let telling = told_fault(alloc, text, program, flat, inputs, variable, instant, kind)?;
     let lent = program.program();
-    let reason = of_fault(
-        alloc,
-        asked.program,
-        bytes,
-        lent,
-        asked.main,
-        variable,
-        instant,
-        kind,
-    )?;
+    let main = program.main();
+    let reason = of_fault(alloc, path, bytes, lent, main, variable, instant, kind)?;
     match telling {
-        Telling::Whole(told) => Ok(at_operator(alloc, asked.program, bytes, &told, reason)?),
+        Telling::Whole(told) => at_operator(alloc, path, bytes, &told, reason),
         Telling::Other => Ok(reason),
         Telling::Unclear => Err(CallError::OutOfMemory),
     }
@@ -217,11 +208,20 @@ fn of_value<F: Files>(
         asked.entry.main.now asked.entry.table.now variable.now instant kind) }
 {
     let bytes = read(alloc, files, asked.program)?;
-    let program = program_of(alloc, &bytes)?;
-    let (checked, flat) = checked_flat(alloc, &program, asked.main)?;
-    let inputs = inputs_at(alloc, files, &flat, asked.table)?;
+    let text = bytes.as_slice();
+    let program = program_of(alloc, text)?;
+    let both = checked_flat(alloc, &program, asked.main)?;
+    let inputs = inputs_at(alloc, files, &both.1, asked.table)?;
     told_of(
-        alloc, asked, &bytes, &checked, &flat, &inputs, variable, instant, kind,
+        alloc,
+        asked.program,
+        text,
+        &both.0,
+        &both.1,
+        &inputs,
+        variable,
+        instant,
+        kind,
     )
 }
 
