@@ -36,6 +36,15 @@ pub record ReceiverView : Type 0 where
 abbrev pub AreOfOneRing : SenderView → ReceiverView → Type 0
 AreOfOneRing s r = (s.ring ≡ r.ring) × (s.job ≡ r.job) × (s.link ≡ r.link) × (s.capacity ≡ r.capacity)
 
+-- the ends of links of this job, unused
+pub record IsUnusedSender (job : JobView) (t : SenderView) : Type 0 where
+  pub job_is : t.job ≡ job
+  pub unused : t.put ≡ []
+
+pub record IsUnusedReceiver (job : JobView) (t : ReceiverView) : Type 0 where
+  pub job_is : t.job ≡ job
+  pub unused : t.taken ≡ []
+
 -- the message is the next to be put
 abbrev pub IsNextToPut : SenderView → Msg → Type 0
 IsNextToPut s m = IsNextOf (list_of s.job s.link) (length s.put) m

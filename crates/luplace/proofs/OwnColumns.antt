@@ -7,7 +7,7 @@ use Rattle.std.proofs.lemmas.List.{map-append, take_more}
 use Rattle.luflow.specs.Program.{column_of, data_of}
 use Rattle.luworld.specs.Needs.{stands}
 use Rattle.luworld.specs.Jobs.{JobView}
-use Rattle.luplace.specs.SiteInputsViews.{column_at, columns_at}
+use Rattle.luplace.specs.SiteInputsViews.{column_at, columns_at, datum_of}
 
 pub map_range : {X : Type 0} (f : ℕ → X) (a n k : ℕ) → k < n → slice_get (map f (range_with_len a n)) k ≡ Some (f (a + k))
 map_range f a zero k l = absurd (omega arith)
@@ -24,25 +24,26 @@ past_list [] k l = refl
 past_list (x ∷ xs) zero l = absurd (omega arith)
 past_list (x ∷ xs) (suc k) l = past_list xs k (omega arith)
 
-pub own_column : (job : JobView) (s c : ℕ) → stands job.plan c s ≡ true → unwrap_or (slice_get (columns_at job s) c) [] ≡ column_of job.inputs c
-own_column job s c own = elim (cases_lt c (length job.inputs.columns)) [
+-- a site's own column gives the input's data
+pub own_column : (job : JobView) (s c t : ℕ) → stands job.plan c s ≡ true → datum_of (slice_get (columns_at job s) c) t ≡ slice_get (column_of job.inputs c) t
+own_column job s c t own = elim (cases_lt c (length job.inputs.columns)) [
   | inl l ↦
-      ap (λ o. unwrap_or o []) (map_range (column_at job s) 0 (length job.inputs.columns) c l)
-      ∙ ap (λ k. column_at job s k) (let e : 0 + c ≡ c = omega arith in e)
-      ∙ ap (λ b. cond b (column_of job.inputs c) []) own
+      ap (λ o. datum_of o t) (map_range (column_at job s) 0 (length job.inputs.columns) c l)
+      ∙ ap (λ k. datum_of (Some (column_at job s k)) t) (let e : 0 + c ≡ c = omega arith in e)
+      ∙ ap (λ b. datum_of (Some (cond b (Some (column_of job.inputs c)) None)) t) own
   | inr g ↦
-      ap (λ o. unwrap_or o []) (past_range (column_at job s) 0 (length job.inputs.columns) c g)
-      ∙ sym (ap data_of (past_list job.inputs.columns c g))
+      ap (λ o. datum_of o t) (past_range (column_at job s) 0 (length job.inputs.columns) c g)
+      ∙ sym (ap (λ o. slice_get (data_of o) t) (past_list job.inputs.columns c g))
 ]
 
--- a column that stands elsewhere is empty
-pub no_column : (job : JobView) (s c : ℕ) → stands job.plan c s ≡ false → unwrap_or (slice_get (columns_at job s) c) [] ≡ []
-no_column job s c other = elim (cases_lt c (length job.inputs.columns)) [
+-- there is no column that stands elsewhere
+pub no_column : (job : JobView) (s c t : ℕ) → stands job.plan c s ≡ false → datum_of (slice_get (columns_at job s) c) t ≡ None
+no_column job s c t other = elim (cases_lt c (length job.inputs.columns)) [
   | inl l ↦
-      ap (λ o. unwrap_or o []) (map_range (column_at job s) 0 (length job.inputs.columns) c l)
-      ∙ ap (λ k. column_at job s k) (let e : 0 + c ≡ c = omega arith in e)
-      ∙ ap (λ b. cond b (column_of job.inputs c) []) other
-  | inr g ↦ ap (λ o. unwrap_or o []) (past_range (column_at job s) 0 (length job.inputs.columns) c g)
+      ap (λ o. datum_of o t) (map_range (column_at job s) 0 (length job.inputs.columns) c l)
+      ∙ ap (λ k. datum_of (Some (column_at job s k)) t) (let e : 0 + c ≡ c = omega arith in e)
+      ∙ ap (λ b. datum_of (Some (cond b (Some (column_of job.inputs c)) None)) t) other
+  | inr g ↦ ap (λ o. datum_of o t) (past_range (column_at job s) 0 (length job.inputs.columns) c g)
 ]
 
 range_more : (a n : ℕ) → range_with_len a (n + 1) ≡ range_with_len a n ++ (a + n) ∷ []

@@ -1,16 +1,17 @@
 //! Jobs: what one run is about, and what of it a site is handed.
 
-ghost use Rattle.std.specs.Prelude.{◌≡◌, ◌<◌, true, false, cond, [], IfOk, None, length, map, slice_get, unwrap_or};
+ghost use Rattle.std.specs.Prelude.{◌≡◌, ◌<◌, true, false, cond, IfOk, None, Some, length, map, slice_get, unwrap_or};
 ghost use Rattle.std.specs.List.{range_with_len};
+ghost use Rattle.std.specs.Option.{option_map};
 ghost use Rattle.luflow.specs.Program.{column_of, data_of};
 ghost use Rattle.luflow.specs.Packed.{data_in};
 ghost use Rattle.luflow.specs.Tables.{columns_view};
 ghost use Rattle.luflow.specs.Sound.{IsFit};
 ghost use Rattle.luworld.specs.Needs.{sites_of, stands};
 ghost use Rattle.luworld.specs.Jobs.{IsJobView};
+ghost use Rattle.luplace.specs.SiteInputsViews.{columns_at, datum_of, given_data};
 
 use crate::plan::Plan;
-use lubase::Row;
 use luflow::{Datum, Inputs, Values};
 use std::alloc::{AllocError, Global};
 use std::marker::Model;
@@ -44,7 +45,7 @@ impl Model for Job {
 pub struct SiteInputs {
     site: u8,
     instants: u32,
-    columns: Row<Row<Datum>>,
+    columns: Vec<Option<Values>>,
     job: Snapshot<Job>,
 }
 
@@ -67,13 +68,13 @@ impl Model for SiteInputs {
 
     ghost view = { λ a. record { job = a.job.value; site = a.site } };
 
-    ghost invariant = { λ a. IsSiteInputsView a.job.value a.site a.instants a.columns };
+    ghost invariant = { λ a. IsSiteInputsView a.job.value a.site a.instants a.columns.items };
 }
 
-fn copied(alloc: Global, column: &Values) -> Result<Row<Datum>, AllocError>
-    ensures { IfOk result (λ row. row ≡ data_in column.now) }
+fn copied(alloc: Global, column: &Values) -> Result<Values, AllocError>
+    ensures { IfOk result (λ values. data_in values ≡ data_in column.now) }
 {
-    Ok(Row::new(column.to_vec(alloc)?))
+    column.first(alloc, column.len())
 }
 
 impl Job {
@@ -117,12 +118,12 @@ impl Job {
     }
 }
 
-fn datum_in(columns: &[Row<Datum>], column: usize, instant: usize) -> Option<Datum>
-    ensures { result ≡ slice_get (unwrap_or (slice_get columns.now column) []) instant }
+fn datum_in(columns: &[Option<Values>], column: usize, instant: usize) -> Option<Datum>
+    ensures { result ≡ datum_of (slice_get (given_data columns.now) column) instant }
 {
     match columns.get(column) {
-        Some(row) => row.as_slice().get(instant).copied(),
-        None => None,
+        Some(Some(values)) => values.get(instant),
+        _ => None,
     }
 }
 
@@ -149,6 +150,27 @@ impl SiteInputs {
         self.instants
     }
 
+    /// The columns of the main inputs by number: of those that stand at the site, and none of any other.
+    pub fn columns(&self) -> &[Option<Values>]
+        ensures { given_data result.now ≡ columns_at self.now.job self.now.site }
+    {
+        self.columns.as_slice()
+    }
+
+    /// The columns, as [`SiteInputs::columns`] has them, and the job for contracts alone.
+    pub fn take_apart(self) -> (Vec<Option<Values>>, Snapshot<Job>)
+        ensures columns { given_data result.0.items ≡ columns_at self.job self.site }
+        ensures job { result.1.value ≡ self.job }
+    {
+        let SiteInputs {
+            site: _,
+            instants: _,
+            columns,
+            job,
+        } = self;
+        (columns, job)
+    }
+
     /// The value at an instant of the main input of this number, where that input stands at the site; nothing of any other.
     pub fn given(&self, column: usize, instant: u32) -> Option<Datum>
         ensures own { stands self.now.job.plan column self.now.site ≡ true → result
@@ -166,16 +188,15 @@ fn column_for(
     columns: &[(String, Values)],
     c: usize,
     site: u8,
-) -> Result<Row<Datum>, AllocError>
+) -> Result<Option<Values>, AllocError>
     requires { c < length columns.now }
-    ensures { IfOk result (λ row. row ≡ cond (stands plan.now c site)
-        (data_of (slice_get (columns_view columns.now) c)) []) }
+    ensures { IfOk result (λ column. option_map data_in column ≡ cond (stands plan.now c site)
+        (Some (data_of (slice_get (columns_view columns.now) c))) None) }
 {
     if plan.stands(c, site) {
-        copied(alloc, values_in(columns, c))
-    } else {
-        Ok(Row::new(Vec::new(alloc)))
+        return Ok(Some(copied(alloc, values_in(columns, c))?));
     }
+    Ok(None)
 }
 
 fn values_in(columns: &[(String, Values)], c: usize) -> &Values
@@ -185,23 +206,23 @@ fn values_in(columns: &[(String, Values)], c: usize) -> &Values
     &columns[c].1
 }
 
-/// The columns of a site's own inputs, and an empty one for each other input.
+/// The columns of a site's own inputs, and none of each other input.
 fn columns_of(
     alloc: Global,
     plan: &Plan,
     columns: &[(String, Values)],
     site: u8,
-) -> Result<Vec<Row<Datum>>, AllocError>
-    ensures { IfOk result (λ rows. rows.items ≡ map (λ c. cond (stands plan.now c site)
-        (data_of (slice_get (columns_view columns.now) c)) [])
+) -> Result<Vec<Option<Values>>, AllocError>
+    ensures { IfOk result (λ all. given_data all.items ≡ map (λ c. cond (stands plan.now c site)
+        (Some (data_of (slice_get (columns_view columns.now) c))) None)
         (range_with_len 0 (length columns.now))) }
 {
-    let mut rows = Vec::with_capacity(alloc, columns.len())?;
+    let mut all = Vec::with_capacity(alloc, columns.len())?;
     for c in 0..columns.len() {
-        let row = column_for(alloc, plan, columns, c, site)?;
-        rows.push_reserved(row);
+        let column = column_for(alloc, plan, columns, c, site)?;
+        all.push_reserved(column);
     }
-    Ok(rows)
+    Ok(all)
 }
 
 impl Job {
@@ -214,7 +235,7 @@ impl Job {
         Ok(SiteInputs {
             site,
             instants: self.inputs.instants(),
-            columns: Row::new(columns),
+            columns,
             job: Snapshot::of(self),
         })
     }

@@ -1,5 +1,6 @@
 //! Plans: where the flows of a program stand, what each site needs, and which links there are.
 
+ghost use Rattle.std.specs.Arc.{arc_value};
 ghost use Rattle.std.specs.List.Sorted.{IsStrictlyIncreasing};
 ghost use Rattle.std.specs.Prelude.{◌≡◌, ◌⊎◌, ◌<◌, true, length, All, IfOk, IfErr};
 ghost use Rattle.luworld.specs.Needs.{PlanView, IsPlan, sites_of, stands};
@@ -17,11 +18,12 @@ use luplace_file::{Place, PlaceError};
 use luworld::Link;
 use std::alloc::{AllocError, Global};
 use std::marker::Model;
+use std::sync::Arc;
 
 /// A plan: a flat program, its sites, where its main variables stand, and the links that follow. A contract sees the
 /// `PlanView` of `luworld`.
 pub struct Plan {
-    flat: Flat,
+    flat: Arc<Flat>,
     names: Row<Name>,
     placed: Row<Row<u8>>,
     needs: Row<Row<usize>>,
@@ -44,12 +46,13 @@ impl Drop for Plan {
 }
 
 impl Model for Plan {
+    ghost use Rattle.std.specs.Arc.{arc_value};
     ghost use Rattle.luworld.specs.Needs.{PlanView, IsPlan};
 
     ghost Value = { PlanView };
 
     ghost view = { λ a. record {
-      flat = a.flat;
+      flat = arc_value a.flat;
       names = a.names;
       placed = a.placed;
       needs = a.needs;
@@ -58,7 +61,7 @@ impl Model for Plan {
     } };
 
     ghost invariant = { λ a. IsPlan (record {
-      flat = a.flat;
+      flat = arc_value a.flat;
       names = a.names;
       placed = a.placed;
       needs = a.needs;
@@ -124,8 +127,9 @@ impl Plan {
             needs,
             links,
         } = what_follows(alloc, &flat, place, placed.as_slice())?;
+        let shared = Arc::new(alloc, flat)?;
         Ok(Plan::of_parts(
-            flat,
+            shared,
             names,
             Row::new(placed),
             needs,
@@ -136,7 +140,7 @@ impl Plan {
 
     /// The plan of these parts, which are what they are said to be.
     pub(crate) fn of_parts(
-        flat: Flat,
+        flat: Arc<Flat>,
         names: Row<Name>,
         placed: Row<Row<u8>>,
         needs: Row<Row<usize>>,
@@ -144,7 +148,7 @@ impl Plan {
         capacity: u16,
     ) -> Plan
         requires { IsPlan (record {
-          flat = flat;
+          flat = arc_value flat;
           names = names;
           placed = placed;
           needs = needs;
@@ -152,7 +156,7 @@ impl Plan {
           capacity = capacity;
         }) }
         ensures { result ≡ record {
-          flat = flat;
+          flat = arc_value flat;
           names = names;
           placed = placed;
           needs = needs;
@@ -183,6 +187,17 @@ impl Plan {
         ensures plan { IsPlan self.now }
     {
         &self.flat
+    }
+
+    /// The flat program, to be shared.
+    ///
+    /// # Errors
+    ///
+    /// None but where the program is shared more often than can be counted.
+    pub fn shared_flat(&self) -> Result<Arc<Flat>, AllocError>
+        ensures { IfOk result (λ flat. arc_value flat ≡ self.now.flat) }
+    {
+        Arc::try_clone(&self.flat)
     }
 
     /// The names of the sites, by number. Takes no memory.

@@ -10,3 +10,5 @@ pub mod RunVectors
 pub mod WorldViews
 pub mod RunLaws
 pub mod PlanVectors
+pub mod Turns
+pub mod Sites

@@ -6,7 +6,7 @@
 //!
 //! The definitions stand in `specs/`: `Systems` (items, systems, turns), `Reach` (reachable items), `Outline` (a plan in the
 //! abstract, its scripts), `Laws`, `OutlineLaws`; and `Needs`, `Jobs` (a plan of a flat program, its links, one run's scripts
-//! and lists), `WorldViews` (what was taken, waits and was reported), `RunLaws`. `Vectors` and `RunVectors` have worked examples.
+//! and lists), `WorldViews` (what was taken, waits and was reported), `Sites` (one site, and what it leaves), `RunLaws`. `Vectors` and `RunVectors` have worked examples.
 #![tactic(auto)]
 
 pub mod laws;
