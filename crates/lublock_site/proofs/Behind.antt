@@ -1,26 +1,24 @@
 -- Behind a block of a site: what it was, and where the next one begins.
-use Rattle.std.proofs.Common.{◌≡◌, ◌≢◌, ℕ, suc, ◌+◌, ◌-◌, ◌<◌, ◌≤◌, inl, inr, Bool, true, false, List, length, Some, refl, sym, subst, ◌∙◌, ap, arith}
-use Rattle.std.specs.Prelude.{slice_get}
+use Rattle.std.proofs.Common.{◌≡◌, ◌≢◌, ℕ, ◌+◌, ◌-◌, ◌≤◌, inl, inr, Bool, true, false, List, Some, sym, subst, ◌∙◌, ap, arith}
 use Rattle.std.proofs.lemmas.Bool.{cases_lt}
 use Rattle.std.proofs.lemmas.Option.{slice_get_within}
 use Rattle.luflow.specs.declared.form.Form.{Form}
 use Rattle.luflow.specs.declared.form.Flow.{Flow}
-use Rattle.luflow.specs.Program.{FlatView, InputsView, flow_at, flows_of}
-use Rattle.luflow.specs.Streams.{Streams, Broken}
+use Rattle.luflow.specs.Program.{flow_at, flows_of}
+use Rattle.luflow.specs.Streams.{Broken}
 use Rattle.luflow.specs.Messages.{presents}
 use Rattle.luflow.proofs.Solutions.{some_at}
 use Rattle.luworld.specs.Jobs.{JobView, streams_of}
-use Rattle.lulink.specs.Views.{SenderView, ReceiverView}
 use Rattle.lublock_kernels.specs.Blocks.{Block, SolvesAt, datum_at}
-use Rattle.lublock_kernels.specs.Parts.{Part, IsPart, IsRightIn, IsSolvedIn, GoesOut, knows}
-use Rattle.lublock_kernels.specs.Machine.{block_of, ticks_of, upto_of, known_of, supposed_of, taken_of, IsDone, ClosesAt}
+use Rattle.lublock_kernels.specs.Parts.{Part, IsRightIn, IsSolvedIn, knows}
+use Rattle.lublock_kernels.specs.Machine.{block_of, ticks_of, upto_of, known_of, taken_of, IsDone, ClosesAt}
 use Rattle.lublock_kernels.specs.Wholes.{IsWholeAt}
 use Rattle.lublock_kernels.proofs.Rights.{goes_out, known_own}
 use Rattle.lublock_kernels.proofs.Wholes.{whole_right_in, whole_solved_in, next_begins}
 use Rattle.lublock.specs.declared.board.Board.{Board}
 use Rattle.lublock.specs.Boards.{StandsOn, IsAfter}
 use Rattle.lublock.specs.Shown.{Column, AreNear}
-use Rattle.lublock_site.specs.Stations.{Brings, BringsTicks, Sends, SendsTicks}
+use Rattle.lublock_site.specs.Stations.{Brings, Sends}
 use Rattle.lublock_site.specs.Going.{part_in, IsFrame, IsKnown, IsSheet, AreEnds, IsPast}
 use Rattle.lublock_site.specs.Blocks.{AreAllSure, HaveBrought, HaveSent, AreSourcesBegun, AreOutletsBegun}
 use Rattle.lublock_site.specs.declared.sources.Source.{Source}
@@ -28,7 +26,7 @@ use Rattle.lublock_site.specs.declared.outlets.Outlet.{Outlet}
 use Rattle.lublock_site.specs.declared.site.Frame.{Frame}
 use Rattle.lublock_site.proofs.Moving.{is_flat, solved}
 
-module _ (job : JobView) (site : ℕ) (frame : Frame) (is : IsFrame job site frame) (t len : ℕ) (within : t + len ≤ job.inputs.instants) (board : Board) (sure : List Bool) (sheet : IsSheet job frame t len board sure) (all : AreAllSure (flows_of job.plan.flat) frame.own.items frame.taken.items sure) where
+module _ (job : JobView) (site : ℕ) (frame : Frame) (is : IsFrame job site frame) (t len : ℕ) (within : t + len ≤ job.inputs.instants) (board : Board) (sure : List Bool) (sheet : IsSheet job frame t len board sure) (all : AreAllSure (flows_of job.plan.flat) frame.code.marks.own.items frame.code.marks.taken.items sure) where
   abbrev part : Part
   part = part_in frame
 
@@ -42,7 +40,7 @@ module _ (job : JobView) (site : ℕ) (frame : Frame) (is : IsFrame job site fra
   closes i own supposed flow there = absurd (let e : true ≡ false = sym supposed ∙ (sheet.sure.settled i (all i (slice_get_within job.plan.flat.flows i flow there) (known_own part i own))).found in cc)
 
   pub block_right : IsRightIn part job.plan.flat job.inputs (streams_of job) t len now
-  block_right = whole_right_in part job.plan.flat job.inputs (streams_of job) t len board.rows.items board.spans.items (is_flat job is.run) is.run.fit (solved job is.run) within is.part complete closes sheet.stands.stands
+  block_right = whole_right_in part job.plan.flat job.inputs (streams_of job) t len board.rows.items board.spans.items (is_flat job is.run) is.run.fit (solved job is.run) within is.code.marks.part complete closes sheet.stands.stands
 
   block_solved : IsSolvedIn part job.plan.flat job.inputs (streams_of job) t len now
   block_solved = whole_solved_in part job.plan.flat job.inputs (streams_of job) t len board.rows.items board.spans.items complete closes sheet.stands.stands
@@ -51,7 +49,7 @@ module _ (job : JobView) (site : ℕ) (frame : Frame) (is : IsFrame job site fra
   present_after : (i : ℕ) → IsKnown job frame i → presents (streams_of job i) (t + len) ≡ presents (streams_of job i) t + ticks_of board.spans.items i
   present_after i known =
       let f = some_at job.plan.flat.flows i known.there in
-      (goes_out part job.plan.flat job.inputs (streams_of job) t len now (is_flat job is.run) is.run.fit (solved job is.run) within sheet.stands.stands.begins is.part block_right i f.0 f.1 known.known).after
+      (goes_out part job.plan.flat job.inputs (streams_of job) t len now (is_flat job is.run) is.run.fit (solved job is.run) within sheet.stands.stands.begins is.code.marks.part block_right i f.0 f.1 known.known).after
 
   -- the next block's rows stand
   pub next_stands : (len' : ℕ) (next : Board) → IsAfter job.plan.flat board next → StandsOn part job.plan.flat job.inputs (streams_of job) (t + len) len' next

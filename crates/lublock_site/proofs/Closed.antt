@@ -1,16 +1,14 @@
 -- Flows that are sure, and some more.
-use Rattle.std.proofs.Common.{◌≡◌, ℕ, ◌+◌, ◌<◌, inl, inr, Bool, true, false, List, [], length, Some, get_or, refl, sym, subst, ◌∙◌, ap, arith}
-use Rattle.std.specs.Prelude.{All, slice_get, slice_index_or, ◌||◌, ◌&&◌, ◌⊎◌}
+use Rattle.std.proofs.Common.{◌≡◌, ℕ, ◌+◌, ◌<◌, inl, inr, Bool, true, false, List, [], Some, get_or, refl, sym, subst, ◌∙◌, ap, arith}
+use Rattle.std.specs.Prelude.{All, slice_get, ◌||◌, ◌&&◌}
 use Rattle.std.proofs.lemmas.Bool.{cases_lt}
-use Rattle.std.proofs.lemmas.Option.{slice_get_within, get_or_from_slice_get}
-use Rattle.luflow.specs.declared.form.Form.{Form}
+use Rattle.std.proofs.lemmas.Option.{get_or_from_slice_get}
 use Rattle.luflow.specs.declared.form.Flow.{Flow}
-use Rattle.luflow.specs.declared.form.Clock.{Clock}
 use Rattle.luflow.specs.Program.{FlatView, flow_at, places, clock_reads}
 use Rattle.lublock_kernels.specs.declared.span.Span.{Span}
-use Rattle.lublock_kernels.specs.Parts.{Part, IsPart, knows}
+use Rattle.lublock_kernels.specs.Parts.{IsPart, knows}
 use Rattle.lublock.specs.Boards.{IsSettled, KeepsSettled}
-use Rattle.lublock_site.specs.Marks.{marked, marked_part, PlacesKnown, ClockKnown}
+use Rattle.lublock_site.specs.Marks.{marked, marked_part}
 use Rattle.lublock_site.specs.Sure.{sure_part, AreSure, IsMarkedMore, ReadsSure}
 use Rattle.lublock_site.proofs.Marked.{places_known, clock_known}
 

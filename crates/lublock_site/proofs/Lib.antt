@@ -8,6 +8,9 @@ mod Closed
 mod Moving
 mod Behind
 mod Reporting
-mod EndReports
+mod Ended
+mod Coded
+mod Owned
+mod Pushed
 mod Starting
 pub mod Crosses

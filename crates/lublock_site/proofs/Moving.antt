@@ -1,46 +1,42 @@
 -- A site in rows stays one, whatever it does in a step.
-use Rattle.std.proofs.Common.{◌≡◌, ◌≢◌, ℕ, ◌+◌, ◌<◌, ◌≤◌, inl, inr, Bool, true, false, List, length, set, get_or, Some, ℤ, refl, sym, subst, ◌∙◌, ap, arith}
-use Rattle.std.specs.Prelude.{slice_get, slice_set, Vec}
-use Rattle.std.specs.Arc.{arc_value}
+use Rattle.std.proofs.Common.{◌≡◌, ℕ, ◌+◌, ◌≤◌, Bool, true, false, List, set, Some, sym, subst, ◌∙◌, arith}
+use Rattle.std.specs.Prelude.{slice_get, Vec}
 use Rattle.std.specs.declared.alloc.Global.{Global}
 use Rattle.luflow.specs.declared.message.Msg.{Msg}
 use Rattle.std.proofs.lemmas.Option.{same_Some, slice_get_within}
 use Rattle.luflow.specs.declared.form.Flow.{Flow}
-use Rattle.luflow.specs.Program.{FlatView, InputsView, flow_at, flows_of}
-use Rattle.luflow.specs.Streams.{Streams, before}
+use Rattle.luflow.specs.Program.{FlatView, flow_at}
+use Rattle.luflow.specs.Streams.{before}
 use Rattle.luflow.specs.Solution.{IsSolution}
-use Rattle.luflow.specs.Sound.{IsFit}
 use Rattle.luflow.specs.Flats.{IsFlat}
 use Rattle.luflow.proofs.Solutions.{IsSolution-solution, some_at}
 use Rattle.luworld.specs.Jobs.{JobView, IsJobView, streams_of}
-use Rattle.lublock_kernels.specs.declared.span.Span.{Span}
-use Rattle.lublock_kernels.specs.Parts.{Part, IsPart, IsRightIn, GoesOut, knows}
-use Rattle.lublock_kernels.specs.Wholes.{IsWholeAt}
-use Rattle.lublock_kernels.specs.Machine.{block_of, ticks_of, upto_of, known_of, supposed_of, Stands, ClosesAt}
+use Rattle.lublock_kernels.specs.Parts.{Part, IsRightIn, GoesOut, knows}
+use Rattle.lublock_kernels.specs.Machine.{block_of, upto_of, known_of, supposed_of, ClosesAt}
 use Rattle.lublock_kernels.proofs.Rights.{goes_out}
 use Rattle.lublock_kernels.proofs.Wholes.{whole_right_in, sub_stands}
 use Rattle.lublock_kernels.proofs.Steps.{get_other, get_same, same_place}
 use Rattle.lublock.specs.declared.board.Board.{Board}
-use Rattle.lublock.specs.Boards.{StandsOn, StandsStill, IsSettled}
+use Rattle.lublock.specs.Boards.{StandsStill}
 use Rattle.lublock_plan.specs.declared.cycle.Cycle.{Cycle}
-use Rattle.lublock_site.specs.declared.tried.Tried.{Tried}
-use Rattle.lublock_site.specs.declared.tried.Tried.TheVariants.{Done, Blocked, Over}
-use Rattle.lublock_site.specs.Tries.{IfGoes, is_over}
-use Rattle.lublock_site.specs.Marks.{marked, marked_part}
+use Rattle.luworld.specs.declared.turn.Turn.{Turn}
+use Rattle.luworld.specs.declared.turn.Turn.TheVariants.{Moved, Blocked, Over}
+use Rattle.luworld.specs.Turns.{IfGoes, is_over}
+use Rattle.lublock_site.specs.Marks.{marked}
 use Rattle.lublock_site.specs.Sure.{sure_part, AreSure}
 use Rattle.lublock_site.specs.Stations.{Brings, BringsTicks, Sends, HasBrought, HasSent, IsLater, MayClose, MaySend}
-use Rattle.lublock_site.specs.Going.{part_in, IsFrame, IsKnown, IsSheet, AreEnds, IsGoing, MaySendAt, HasBroughtAt, HasSentAt}
+use Rattle.lublock_site.specs.Going.{part_in, IsFrame, IsKnown, IsSheet, AreEnds, IsGoing}
 use Rattle.lublock_site.specs.declared.sources.Source.{Source}
 use Rattle.lublock_site.specs.declared.outlets.Outlet.{Outlet}
 use Rattle.lublock_site.specs.declared.site.Frame.{Frame}
 use Rattle.lublock_site.specs.declared.site.RowSite.{RowSite}
-use Rattle.lublock_site.proofs.Closed.{and_left, and_right, sure_still, sure_is, sure_knows, knows_sure}
+use Rattle.lublock_site.proofs.Closed.{and_left, and_right, sure_still, sure_is, knows_sure}
 
 -- the rows stand still
 pub sheet_still : (job : JobView) (frame : Frame) (t len : ℕ) (a b : Board) (sure : List Bool) → StandsStill job.plan.flat job.inputs t len a b → IsSheet job frame t len a sure → IsSheet job frame t len b sure
 sheet_still job frame t len a b sure still sheet = record {
   stands = still.still (part_in frame) (streams_of job) sheet.stands;
-  sure = sure_still job.plan.flat frame.own.items frame.taken.items a.spans.items b.spans.items sure still.kept sheet.sure;
+  sure = sure_still job.plan.flat frame.code.marks.own.items frame.code.marks.taken.items a.spans.items b.spans.items sure still.kept sheet.sure;
 }
 
 pub going_run : (x : RowSite) (run : Vec Msg Global) → IsGoing x → IsGoing (record x { run = run })
@@ -65,23 +61,23 @@ solved job run = IsSolution-solution job.plan.flat job.inputs (is_flat job run).
 -- what is sure is right, and goes out as messages
 module _ (job : JobView) (site : ℕ) (frame : Frame) (is : IsFrame job site frame) (t len : ℕ) (within : t + len ≤ job.inputs.instants) (board : Board) (sure : List Bool) (sheet : IsSheet job frame t len board sure) where
   abbrev sub : Part
-  sub = sure_part frame.own.items frame.taken.items sure
+  sub = sure_part frame.code.marks.own.items frame.code.marks.taken.items sure
 
   sub_closes : (i : ℕ) → sub.own i ≡ true → ClosesAt job.plan.flat board.rows.items board.spans.items i
-  sub_closes i own supposed = absurd (let e : true ≡ false = sym supposed ∙ (sheet.sure.settled i (and_right (marked frame.own.items i) (marked sure i) own)).found in cc)
+  sub_closes i own supposed = absurd (let e : true ≡ false = sym supposed ∙ (sheet.sure.settled i (and_right (marked frame.code.marks.own.items i) (marked sure i) own)).found in cc)
 
   pub sub_right : IsRightIn sub job.plan.flat job.inputs (streams_of job) t len (block_of board.rows.items board.spans.items)
   sub_right =
       whole_right_in sub job.plan.flat job.inputs (streams_of job) t len board.rows.items board.spans.items (is_flat job is.run) is.run.fit (solved job is.run) within sheet.sure.closed
-      (λ i flow there known. (sheet.sure.settled i (sure_is frame.own.items frame.taken.items sure i known)).whole)
+      (λ i flow there known. (sheet.sure.settled i (sure_is frame.code.marks.own.items frame.code.marks.taken.items sure i known)).whole)
       sub_closes
-      (sub_stands sub (part_in frame) (record { own = λ i h. and_left (marked frame.own.items i) (marked sure i) h; taken = λ i h. and_left (marked frame.taken.items i) (marked sure i) h })
+      (sub_stands sub (part_in frame) (record { own = λ i h. and_left (marked frame.code.marks.own.items i) (marked sure i) h; taken = λ i h. and_left (marked frame.code.marks.taken.items i) (marked sure i) h })
       job.plan.flat job.inputs (streams_of job) t len (block_of board.rows.items board.spans.items) (upto_of board.spans.items) (known_of board.spans.items) (supposed_of board.spans.items) sheet.stands.stands)
 
   pub sure_goes_out : (i : ℕ) (flow : Flow) → flow_at job.plan.flat i ≡ Some flow → knows (part_in frame) i ≡ true → marked sure i ≡ true → GoesOut job.plan.flat job.inputs (streams_of job) t len (block_of board.rows.items board.spans.items) i flow
   sure_goes_out i flow there known is_sure =
-      let here : knows sub i ≡ true = knows_sure frame.own.items frame.taken.items sure i known is_sure in
-      let begins = (sub_stands sub (part_in frame) (record { own = λ i h. and_left (marked frame.own.items i) (marked sure i) h; taken = λ i h. and_left (marked frame.taken.items i) (marked sure i) h })
+      let here : knows sub i ≡ true = knows_sure frame.code.marks.own.items frame.code.marks.taken.items sure i known is_sure in
+      let begins = (sub_stands sub (part_in frame) (record { own = λ i h. and_left (marked frame.code.marks.own.items i) (marked sure i) h; taken = λ i h. and_left (marked frame.code.marks.taken.items i) (marked sure i) h })
       job.plan.flat job.inputs (streams_of job) t len (block_of board.rows.items board.spans.items) (upto_of board.spans.items) (known_of board.spans.items) (supposed_of board.spans.items) sheet.stands.stands).begins in
       goes_out sub job.plan.flat job.inputs (streams_of job) t len (block_of board.rows.items board.spans.items) (is_flat job is.run) is.run.fit (solved job is.run) within begins sheet.sure.closed sub_right i flow there here
 
@@ -138,7 +134,7 @@ ends_brought job frame t flat a b sources outlets k x y there brought ends = rec
   sent = ends.sent;
 }
 
-pub going_brought : (x : RowSite) (board : Board) (sources : Vec Source Global) (k : ℕ) (s s' : Source) → IsGoing x → slice_get x.sources.items k ≡ Some s → s.closed ≡ false → upto_of x.board.spans.items s.flow ≡ s.got → marked x.frame.own.items s.flow ≡ false
+pub going_brought : (x : RowSite) (board : Board) (sources : Vec Source Global) (k : ℕ) (s s' : Source) → IsGoing x → slice_get x.sources.items k ≡ Some s → s.closed ≡ false → upto_of x.board.spans.items s.flow ≡ s.got → marked x.frame.code.marks.own.items s.flow ≡ false
     → sources.items ≡ set x.sources.items k s' → HasBrought x.job.value.plan.flat s.flow x.board s board s' → IsGoing (record x { board = board; sources = sources })
 going_brought x board sources k s s' going there unclosed even free are brought =
     let job = x.job.value in
@@ -147,7 +143,7 @@ going_brought x board sources k s s' going there unclosed even free are brought 
       within = going.within;
       sheet = record {
         stands = brought.stands job (part_in x.frame) x.t x.len free even ((going.ends.sources k s there).ticks unclosed) going.sheet.stands;
-        sure = sure_still job.plan.flat x.frame.own.items x.frame.taken.items x.board.spans.items board.spans.items x.sure.items brought.kept going.sheet.sure;
+        sure = sure_still job.plan.flat x.frame.code.marks.own.items x.frame.code.marks.taken.items x.board.spans.items board.spans.items x.sure.items brought.kept going.sheet.sure;
       };
       ends = subst (λ (xs : List Source). AreEnds job x.frame x.t xs x.outlets.items) (sym are) (ends_brought job x.frame x.t job.plan.flat x.board board x.sources.items x.outlets.items k s s' there brought going.ends);
       past = going.past;
@@ -185,13 +181,9 @@ may_end x going k o there all none unclosed =
       unclosed = unclosed;
     }
 
--- another step is at hand
-pub going_at : (x : RowSite) (at : ℕ) → IsGoing x → IsGoing (record x { at = at })
-going_at x at going = record { frame = going.frame; within = going.within; sheet = going.sheet; ends = going.ends; past = going.past }
-
 -- what is done leads on
-pub goes_map : (r : Tried) (P Q : Type 0) → (P → Q) → IfGoes r P → IfGoes r Q
-goes_map Done P Q f h = f h
+pub goes_map : (r : Turn) (P Q : Type 0) → (P → Q) → IfGoes r P → IfGoes r Q
+goes_map Moved P Q f h = f h
 goes_map Blocked P Q f h = f h
 goes_map Over P Q f h = tt
 
@@ -204,7 +196,7 @@ going_cycle x b cycles going still = record {
   past = going.past;
 }
 
-pub going_sure : (x : RowSite) (b : Board) (sure : Vec Bool Global) → IsGoing x → StandsStill x.job.value.plan.flat x.job.value.inputs x.t x.len x.board b → AreSure x.job.value.plan.flat x.frame.own.items x.frame.taken.items b.spans.items sure.items → IsGoing (record x { board = b; sure = sure })
+pub going_sure : (x : RowSite) (b : Board) (sure : Vec Bool Global) → IsGoing x → StandsStill x.job.value.plan.flat x.job.value.inputs x.t x.len x.board b → AreSure x.job.value.plan.flat x.frame.code.marks.own.items x.frame.code.marks.taken.items b.spans.items sure.items → IsGoing (record x { board = b; sure = sure })
 going_sure x b sure going still are = record {
   frame = going.frame;
   within = going.within;
@@ -214,7 +206,7 @@ going_sure x b sure going still are = record {
 }
 
 -- what isn't over is done, or nothing was done yet
-pub goes_on : (r : Tried) (P : Type 0) → is_over r ≡ false → IfGoes r P → P
-goes_on Done P e h = h
+pub goes_on : (r : Turn) (P : Type 0) → is_over r ≡ false → IfGoes r P → P
+goes_on Moved P e h = h
 goes_on Blocked P e h = h
 goes_on Over P e h = absurd (let f : true ≡ false = e in cc)

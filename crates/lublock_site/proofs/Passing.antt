@@ -1,36 +1,31 @@
 -- A message that was taken is a word, and a word is the message that may be put.
-use Rattle.std.proofs.Common.{◌≡◌, ◌≢◌, ℕ, zero, suc, ◌+◌, ◌<◌, Bool, true, false, inl, inr, List, [], ◌∷◌, length, Some, ℤ, refl, sym, subst, ◌∙◌, ap, arith, length-append}
-use Rattle.std.specs.Prelude.{slice_get, Vec, ◌++◌}
+use Rattle.std.proofs.Common.{◌≡◌, ℕ, ◌+◌, ◌<◌, false, inl, List, length, Some, ℤ, refl, sym, subst, ◌∙◌, ap, arith, length-append}
+use Rattle.std.specs.Prelude.{slice_get, Vec}
 use Rattle.std.specs.declared.alloc.Global.{Global}
-use Rattle.std.proofs.lemmas.Bool.{cases_lt}
-use Rattle.std.proofs.lemmas.Option.{same_Some, slice_get_within}
-use Rattle.luworld.proofs.Cursor.{slice_get-append_left, slice_get-append_right}
-use Rattle.luflow.specs.declared.data.Datum.{Datum}
 use Rattle.luflow.specs.declared.message.Msg.{Msg}
-use Rattle.luflow.specs.declared.message.Body.TheVariants.{Value, Close}
-use Rattle.luflow.specs.Program.{FlatView, flow_at}
+use Rattle.luflow.specs.declared.message.Body.TheVariants.{Close}
+use Rattle.luflow.specs.Program.{FlatView}
 use Rattle.luflow.specs.Messages.{presents, marks, messages}
-use Rattle.luworld.specs.Jobs.{JobView, carried, streams_of, link_list}
+use Rattle.luworld.specs.Jobs.{JobView, carried, streams_of}
 use Rattle.luworld.proofs.Messages.{close_at}
 use Rattle.lulink.specs.Lists.{list_of}
 use Rattle.lulink.specs.Views.{SenderView, ReceiverView, HasTakenAll, HasTakenNothing, HasPutAll, HasPutNothing, AreNextToTake, AreNextToPut, IsNextToPut}
 use Rattle.lublock_kernels.specs.declared.span.Span.{Span}
-use Rattle.lublock_kernels.specs.Parts.{GoesOut, IsNeverNil, message_at}
-use Rattle.lublock_kernels.specs.Machine.{block_of, upto_of, ticks_of}
+use Rattle.lublock_kernels.specs.Parts.{IsNeverNil, message_at}
+use Rattle.lublock_kernels.specs.Machine.{upto_of}
 use Rattle.lublock.specs.declared.board.Board.{Board}
-use Rattle.lublock_site.specs.declared.tried.Tried.{Tried}
-use Rattle.lublock_site.specs.declared.tried.Tried.TheVariants.{Done, Blocked, Over}
-use Rattle.lublock_site.specs.Tries.{IfGoes}
+use Rattle.luworld.specs.declared.turn.Turn.{Turn}
+use Rattle.luworld.specs.declared.turn.Turn.TheVariants.{Moved, Blocked, Over}
+use Rattle.luworld.specs.Turns.{IfGoes}
 use Rattle.lublock_site.specs.declared.sources.Source.{Source}
 use Rattle.lublock_site.specs.declared.outlets.Outlet.{Outlet}
-use Rattle.lublock_site.specs.Sites.{value_message}
 use Rattle.lublock_site.specs.Steps.{AreComing, HasTakenMessages}
-use Rattle.lublock_site.specs.Stations.{Brings, BringsTicks, SendsTicks, Sends, HasBrought, HasSent, IsLater, MaySend, MayClose, AreMessagesOut}
+use Rattle.lublock_site.specs.Stations.{BringsTicks, SendsTicks, HasBrought, HasSent, MaySend, MayClose, AreMessagesOut}
 use Rattle.lublock_site.proofs.Links.{carries, list_is}
 
 -- what holds anyway holds of a try
-pub goes : (r : Tried) (P : Type 0) → P → IfGoes r P
-goes Done P p = p
+pub goes : (r : Turn) (P : Type 0) → P → IfGoes r P
+goes Moved P p = p
 goes Blocked P p = p
 goes Over P p = tt
 
@@ -53,9 +48,6 @@ brought_none flat i board x x' flow closed got has = record {
   kept = λ r h. h;
   flows = refl;
 }
-
-pub brought_same : (flat : FlatView) (i : ℕ) (board : Board) (x : Source) → HasBrought flat i board x board x
-brought_same flat i board x = brought_none flat i board x x refl refl refl (refl, refl, refl, refl)
 
 pub brought_more : (flat : FlatView) (i : ℕ) (a : Board) (x : Source) (b : Board) (y : Source) (c : Board) (z : Source) → HasBrought flat i a x b y → HasBrought flat i b y c z → HasBrought flat i a x c z
 brought_more flat i a x b y c z f g = record {
@@ -120,9 +112,6 @@ sends_still job t i n s s' has sends = record {
   count = ap length has.2 ∙ sends.count;
 }
 
-pub put_nothing : (s s' s'' : SenderView) → HasPutNothing s s' → HasPutNothing s' s'' → HasPutNothing s s''
-put_nothing s s' s'' f g = (g.0 ∙ f.0, g.1 ∙ f.1, g.2 ∙ f.2, g.3 ∙ f.3)
-
 pub sent_none : (flat : FlatView) (x x' : Outlet) → x'.flow ≡ x.flow → x'.sent ≡ x.sent → x'.number ≡ x.number → x'.closed ≡ x.closed → HasPutNothing x.tx x'.tx → HasSent flat x x'
 sent_none flat x x' flow sent number closed has = record {
   flow = flow;
@@ -132,9 +121,6 @@ sent_none flat x x' flow sent number closed has = record {
     number = λ unclosed. number ∙ h.number (sym closed ∙ unclosed) ∙ sym (ap length has.2);
   };
 }
-
-pub sent_same : (flat : FlatView) (x : Outlet) → HasSent flat x x
-sent_same flat x = record { flow = refl; sends = λ job t h. h }
 
 pub sent_more : (flat : FlatView) (x y z : Outlet) → HasSent flat x y → HasSent flat y z → HasSent flat x z
 sent_more flat x y z f g = record { flow = g.flow ∙ f.flow; sends = λ job t h. g.sends job t (f.sends job t h) }
@@ -159,17 +145,6 @@ sent_run flat x x' msgs n long unclosed flow sent number closed has =
           };
     }
 
--- the close was put
-pub sent_close : (flat : FlatView) (x x' : Outlet) → x'.flow ≡ x.flow → x'.closed ≡ true → HasSent flat x x'
-sent_close flat x x' flow closed = record {
-  flow = flow;
-  sends = λ job t h. record {
-    never = subst (λ (i : ℕ). IsNeverNil flat i) (sym flow) h.never;
-    ticks = λ unclosed. absurd (let e : true ≡ false = sym closed ∙ unclosed in cc);
-    number = λ unclosed. absurd (let e : true ≡ false = sym closed ∙ unclosed in cc);
-  };
-}
-
 -- behind the last instant the close is the next message
 pub may_close : (flat : FlatView) (x : Outlet) → MayClose flat x → IsNextToPut x.tx (record { no = x.number; body = Close })
 may_close flat x may =
@@ -187,40 +162,6 @@ may_close flat x may =
     subst (λ (j : JobView). slice_get (list_of j x.tx.link) (length x.tx.put) ≡ Some (record { no = x.number; body = Close })) (sym sends.job_is)
     (subst (λ (m : ℕ). slice_get (list_of job x.tx.link) m ≡ Some (record { no = x.number; body = Close })) number listed)
 
--- the messages of an end that has put some may be put
-pub may_still : (flat : FlatView) (rows : List (Vec ℤ Global)) (spans : List Span) (x y : Outlet) → MaySend flat rows spans x → HasSent flat x y → y.closed ≡ x.closed → MaySend flat rows spans y
-may_still flat rows spans x y may sent closed = record {
-  job = may.job;
-  first = may.first;
-  len = may.len;
-  flow = may.flow;
-  there = subst (λ (i : ℕ). flow_at flat i ≡ Some may.flow) (sym sent.flow) may.there;
-  goes = subst (λ (i : ℕ). GoesOut flat may.job.inputs (streams_of may.job) may.first may.len (block_of rows spans) i may.flow) (sym sent.flow) may.goes;
-  sends = sent.sends may.job may.first may.sends;
-  unclosed = closed ∙ may.unclosed;
-}
-
 -- an end that went on, of the same flow
 pub brought_on : (flat : FlatView) (a : Board) (x : Source) (b : Board) (y : Source) (c : Board) (z : Source) → HasBrought flat x.flow a x b y → HasBrought flat y.flow b y c z → HasBrought flat x.flow a x c z
 brought_on flat a x b y c z f g = brought_more flat x.flow a x b y c z f (subst (λ (i : ℕ). HasBrought flat i b y c z) f.flow g)
-
--- receiving ends that went on
-pub later_same : (x : Source) → IsLater x x
-later_same x = record { flow = refl; brings = λ job t h. h }
-
-pub later_more : (x y z : Source) → IsLater x y → IsLater y z → IsLater x z
-later_more x y z f g = record { flow = g.flow ∙ f.flow; brings = λ job t h. g.brings job t (f.brings job t h) }
-
-pub later_none : (x y : Source) → y.flow ≡ x.flow → y.got ≡ x.got → y.closed ≡ x.closed → HasTakenNothing x.rx y.rx → IsLater x y
-later_none x y flow got closed has = record {
-  flow = flow;
-  brings = λ job t h. record {
-    ticks = λ unclosed. subst (λ (i : ℕ). BringsTicks job t i y.got y.rx) (sym flow) (subst (λ (n : ℕ). BringsTicks job t x.flow n y.rx) (sym got) (brings_still job t x.flow x.got x.rx y.rx has (h.ticks (sym closed ∙ unclosed))));
-  };
-}
-
-pub later_closed : (x y : Source) → y.flow ≡ x.flow → y.closed ≡ true → IsLater x y
-later_closed x y flow closed = record {
-  flow = flow;
-  brings = λ job t h. record { ticks = λ unclosed. absurd (let e : true ≡ false = sym closed ∙ unclosed in cc) };
-}

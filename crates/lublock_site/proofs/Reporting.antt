@@ -1,21 +1,13 @@
--- What a site reports of its outputs is what their flows have.
-use Rattle.std.proofs.Common.{◌≡◌, ◌≢◌, ℕ, ◌<◌, inl, inr, Bool, true, false, not, List, [], ◌∷◌, ◌++◌, length, map, set, Option, Some, refl, sym, subst, ◌∙◌, ap, arith}
-use Rattle.std.specs.Prelude.{All, slice_get, ◌⊎◌}
+-- What a site leaves of the outputs is what their flows have.
+use Rattle.std.proofs.Common.{◌≡◌, ℕ, inl, inr, List, [], ◌∷◌, ◌++◌, length, Option, Some, sym, subst, ◌∙◌, ap}
+use Rattle.std.specs.Prelude.{slice_get}
 use Rattle.std.proofs.lemmas.Option.{same_Some}
-use Rattle.std.proofs.lemmas.List.Elements.{All-push}
 use Rattle.luflow.specs.declared.data.Status.{Status}
-use Rattle.luflow.specs.declared.variable.Variable.{Variable}
-use Rattle.luflow.specs.Program.{FlatView, InputsView}
-use Rattle.luflow.specs.Streams.{Streams, Known}
-use Rattle.luflow.specs.Messages.{marks}
-use Rattle.luflow.specs.Solution.{IsSolution}
-use Rattle.luflow.specs.Sound.{IsFit}
-use Rattle.luflow.specs.Flats.{IsFlat}
-use Rattle.luflow.specs.Variables.{is_output}
-use Rattle.lublock_kernels.proofs.Steps.{get_other, get_same, same_place}
-use Rattle.lublock.specs.Shown.{Column, AreNear, IsNear}
-use Rattle.lublock.proofs.Answered.{reported_column}
-use Rattle.lublock_site.specs.Reporting.{AreLess, AreReportedColumns, IsTakenOut}
+use Rattle.luflow.specs.Program.{FlatView}
+use Rattle.luflow.specs.Streams.{Streams}
+use Rattle.lublock.specs.Shown.{Column, AreNear}
+use Rattle.lublock_site.specs.Reporting.{AreLess, AreRowsIn, IsOutputRow, IsRowIn}
+use Rattle.lublock_site.proofs.Pushed.{pushed}
 
 no_status : (x : Column) (m : ℕ) (s : Status) → x.items ≡ [] → slice_get x.items m ≡ Some s → ⊥
 no_status x m s empty at = let none : List Status = [] in let f : slice_get none m ≡ Some s = ap (λ (xs : List Status). slice_get xs m) (sym empty) ∙ at in cc
@@ -37,24 +29,15 @@ less_more old mid new f g = λ v x there. elim (g v x there) [
   | inr empty ↦ inr empty
 ]
 
--- one column was put in the place of another
-pub taken_out : (columns : List Column) (v : ℕ) (column empty : Column) → v < length columns → slice_get columns v ≡ Some column → empty.items ≡ [] → IsTakenOut columns v column (set columns v empty)
-taken_out columns v column empty inside there none = record {
-  there = there;
-  less = λ r x at. same_place (λ (r : ℕ). slice_get (set columns v empty) r ≡ Some x → (slice_get columns r ≡ Some x) ⊎ (x.items ≡ [])) v r
-      (λ at. inr (ap (λ (y : Column). y.items) (sym (same_Some empty x (sym (get_same columns v empty inside) ∙ at))) ∙ none))
-      (λ ne at. inl (sym (get_other columns v r empty ne) ∙ at)) at;
-}
+-- the rows of no output, and of one more
+pub rows_none : (columns : List Column) (instants : ℕ) (outputs : List (Option ℕ)) (rows : List Column) → rows ≡ [] → AreRowsIn columns instants outputs rows
+rows_none columns instants outputs rows empty = subst (AreRowsIn columns instants outputs) (sym empty) (λ k output row at there. absurd cc)
 
--- one output more
-pub reported_more : (flat : FlatView) (first columns : List Column) (instants : ℕ) (outputs : List (ℕ × Column)) (v : ℕ) (x : Variable) (column : Column) → IsFlat flat → AreLess first columns → slice_get flat.variables v ≡ Some x → is_output x.role ≡ true → slice_get columns v ≡ Some column → length column.items ≡ instants
-    → AreReportedColumns flat first instants outputs → AreReportedColumns flat first instants (outputs ++ (v, column) ∷ [])
-reported_more flat first columns instants outputs v x column is_flat less there output at long reported inputs σ fit sol all near =
-    let here : AreNear flat σ inputs.instants columns = subst (λ (n : ℕ). AreNear flat σ n columns) (sym all) (less_near flat σ instants first columns near less) in
-    let is = reported_column flat inputs columns σ is_flat fit sol here v x column there output at (long ∙ sym all) in
-    All-push (λ (o : ℕ × Column). map Known o.1.items ≡ marks (σ o.0) instants) outputs (v, column) (reported inputs σ fit sol all near)
-    (is ∙ ap (marks (σ v)) all)
-
--- no output yet
-pub reported_none : (flat : FlatView) (columns : List Column) (instants : ℕ) (outputs : List (ℕ × Column)) → outputs ≡ [] → AreReportedColumns flat columns instants outputs
-reported_none flat columns instants outputs empty = subst (AreReportedColumns flat columns instants) (sym empty) (λ inputs σ fit sol all near k d l. absurd (omega (arith, l)))
+pub rows_more : (columns left : List Column) (instants : ℕ) (outputs : List (Option ℕ)) (rows rows' : List Column) (o : Option ℕ) (row : Column) → slice_get outputs (length rows) ≡ Some o → rows' ≡ rows ++ row ∷ [] → AreLess columns left → IsOutputRow left instants o row → AreRowsIn columns instants outputs rows
+    → AreRowsIn columns instants outputs rows'
+rows_more columns left instants outputs rows rows' o row at is less here made =
+    subst (AreRowsIn columns instants outputs) (sym is)
+    (λ k output r there r_there.
+    pushed (λ (j : ℕ) (y : Column). (p : Option ℕ) → slice_get outputs j ≡ Some p → IsRowIn columns instants p y) rows row
+    (λ p p_there. subst (λ (q : Option ℕ). IsRowIn columns instants q row) (same_Some o p (sym at ∙ p_there)) (left, less, here))
+    (λ j y y_there p p_there. made j p y p_there y_there) k r r_there output there)

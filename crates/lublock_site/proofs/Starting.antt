@@ -1,39 +1,45 @@
 -- A site before its first block.
-use Rattle.std.proofs.Common.{◌≡◌, ℕ, zero, suc, ◌≤◌, Bool, true, false, List, [], ◌∷◌, length, replicate, map, Some, refl, sym, subst, ◌∙◌, ap, arith}
-use Rattle.std.specs.Prelude.{All, ◌||◌}
+use Rattle.std.proofs.Common.{◌≡◌, ℕ, zero, suc, ◌+◌, ◌<◌, ◌≤◌, Bool, true, false, List, [], ◌∷◌, length, replicate, map, Some, refl, sym, subst, ◌∙◌, ap, arith}
+use Rattle.std.specs.Prelude.{All, slice_get, ◌||◌}
 use Rattle.luflow.specs.declared.data.Datum.TheVariants.{Nil}
 use Rattle.luflow.specs.Program.{FlatView, InputsView}
 use Rattle.luflow.specs.Streams.{Streams}
 use Rattle.luflow.proofs.Solutions.{all_at}
-use Rattle.luworld.specs.Jobs.{JobView, streams_of}
-use Rattle.lulink.specs.Views.{SenderView}
+use Rattle.luworld.specs.Jobs.{JobView, carried, streams_of}
+use Rattle.lulink.specs.Views.{IsUnusedReceiver, IsUnusedSender, ReceiverView, SenderView}
 use Rattle.lublock_kernels.specs.declared.span.Span.{Span}
+use Rattle.lublock_kernels.specs.Parts.{IsNeverNil}
 use Rattle.lublock_kernels.specs.Machine.{taken_of, upto_of, was_of, known_of}
 use Rattle.lublock.specs.declared.board.Board.{Board}
 use Rattle.lublock.specs.Boards.{StandsOn}
 use Rattle.lublock.specs.Shown.{Column}
 use Rattle.lublock.proofs.Showing.{empty_near}
+use Rattle.lublock_site.specs.Codes.{IsMarkedLink, IsSentLink}
 use Rattle.lublock_site.specs.Marks.{marked, marked_part}
-use Rattle.lublock_site.specs.RowStations.{IsUnusedSender}
-use Rattle.lublock_site.specs.Stations.{SendsTicks}
-use Rattle.lublock_site.specs.Going.{AreEnds, IsFrame, IsGoing, IsPast, IsSheet}
-use Rattle.lublock_site.specs.Starts.{AreNeverNil, IsCarried, IsFirstBoard, IsFirstOutlet, IsFirstSource, IsTakenBy, first_span}
+use Rattle.lublock_site.specs.Stations.{Brings, BringsTicks, Sends, SendsTicks}
+use Rattle.lublock_site.specs.Going.{AreEnds, IsFrame, IsGoing, IsKnown, IsPast, IsSheet}
+use Rattle.lublock_site.specs.Starts.{AreFirstOutlets, AreFirstSources, IsFirstBoard, first_span}
+use Rattle.lublock_site.specs.declared.code_links.SiteLink.{SiteLink}
 use Rattle.lublock_site.specs.declared.outlets.Outlet.{Outlet}
 use Rattle.lublock_site.specs.declared.site.Frame.{Frame}
 use Rattle.lublock_site.specs.declared.site.RowSite.{RowSite}
 use Rattle.lublock_site.specs.declared.sources.Source.{Source}
 use Rattle.lublock_site.proofs.Closed.{none_sure}
 
--- flows that are never nil in a program are so in an equal one
-pub never_nil_at : (flat flat' : FlatView) (nils : List Bool) → flat ≡ flat' → AreNeverNil flat nils → AreNeverNil flat' nils
-never_nil_at flat flat' nils e h = subst (λ (p : FlatView). AreNeverNil p nils) e h
-
--- an unused sending end has sent nothing of the block from instant 0 on
-pub sends_none : (job : JobView) (i : ℕ) (s : SenderView) → IsUnusedSender job s → IsCarried job.plan s.link i → SendsTicks job 0 i 0 s
-sends_none job i s unused is = record {
+-- an unused receiving end has brought nothing of the block from instant 0 on, and a sending end has sent nothing
+brings_none : (job : JobView) (taken : List Bool) (link : SiteLink) (r : ReceiverView) → IsMarkedLink job.plan taken link → r.link ≡ link.link → IsUnusedReceiver job r → BringsTicks job 0 link.flow 0 r
+brings_none job taken link r is at unused = record {
   job_is = unused.job_is;
-  listed = is.listed;
-  flow_is = is.flow_is;
+  listed = subst (λ (l : ℕ). l < length job.plan.links) (sym at) is.listed;
+  flow_is = ap (carried job.plan) at ∙ is.flow_is;
+  count = ap length unused.unused;
+}
+
+sends_none : (job : JobView) (own : List Bool) (link : SiteLink) (s : SenderView) → IsMarkedLink job.plan own link → s.link ≡ link.link → IsUnusedSender job s → SendsTicks job 0 link.flow 0 s
+sends_none job own link s is at unused = record {
+  job_is = unused.job_is;
+  listed = subst (λ (l : ℕ). l < length job.plan.links) (sym at) is.listed;
+  flow_is = ap (carried job.plan) at ∙ is.flow_is;
   count = ap length unused.unused;
 }
 
@@ -82,10 +88,10 @@ first_stands own taken flat inputs σ len board is = record {
 }
 
 -- the rows stand in the first block, and nothing is sure
-pub first_sheet : (job : JobView) (frame : Frame) (len : ℕ) (board : Board) (sure : List Bool) → IsFirstBoard frame.taken.items board → ((i : ℕ) → marked sure i ≡ false) → IsSheet job frame 0 len board sure
+pub first_sheet : (job : JobView) (frame : Frame) (len : ℕ) (board : Board) (sure : List Bool) → IsFirstBoard frame.code.marks.taken.items board → ((i : ℕ) → marked sure i ≡ false) → IsSheet job frame 0 len board sure
 first_sheet job frame len board sure is none = record {
-  stands = first_stands frame.own.items frame.taken.items job.plan.flat job.inputs (streams_of job) len board is;
-  sure = none_sure job.plan.flat frame.own.items frame.taken.items board.spans.items sure none;
+  stands = first_stands frame.code.marks.own.items frame.code.marks.taken.items job.plan.flat job.inputs (streams_of job) len board is;
+  sure = none_sure job.plan.flat frame.code.marks.own.items frame.code.marks.taken.items board.spans.items sure none;
 }
 
 -- a marked flow is known
@@ -98,18 +104,52 @@ taken_known true y h = refl
 taken_known false y h = h
 
 -- unused ends have passed no tick of the first block, and their flows are known
-pub first_ends : (job : JobView) (frame : Frame) (sources : List Source) (outlets : List Outlet) → All (IsFirstSource job) sources → All (IsTakenBy frame.taken.items) sources → All (IsFirstOutlet job frame.own.items) outlets → AreEnds job frame 0 sources outlets
-first_ends job frame sources outlets are marks sends = record {
-  sources = λ k x there. (all_at (IsFirstSource job) sources k x are there).brings;
-  outlets = λ k x there. (all_at (IsFirstOutlet job frame.own.items) outlets k x sends there).sends;
-  taken = λ k x there. record {
-    there = (all_at (IsFirstSource job) sources k x are there).there;
-    known = taken_known (marked frame.own.items x.flow) (marked frame.taken.items x.flow) (all_at (IsTakenBy frame.taken.items) sources k x marks there);
-  };
-  sent = λ k x there.
-      let is = all_at (IsFirstOutlet job frame.own.items) outlets k x sends there in
-      record { there = is.there; known = own_known (marked frame.own.items x.flow) (marked frame.taken.items x.flow) is.own_is };
-}
+module _ (job : JobView) (frame : Frame) (into out : List SiteLink) (rxs : List ReceiverView) (txs : List SenderView) (sources : List Source) (outlets : List Outlet) (into_is : All (IsMarkedLink job.plan frame.code.marks.taken.items) into) (out_is : All (IsSentLink job.plan frame.code.marks.own.items) out) (receivers : (k : ℕ) (r : ReceiverView) → slice_get rxs k ≡ Some r → IsUnusedReceiver job r)
+    (senders : (k : ℕ) (s : SenderView) → slice_get txs k ≡ Some s → IsUnusedSender job s) (are : AreFirstSources into rxs sources) (are_out : AreFirstOutlets out txs outlets)
+  where
+    link_into : (k : ℕ) (link : SiteLink) → slice_get into k ≡ Some link → IsMarkedLink job.plan frame.code.marks.taken.items link
+    link_into k link there = all_at (IsMarkedLink job.plan frame.code.marks.taken.items) into k link into_is there
+
+    link_out : (k : ℕ) (link : SiteLink) → slice_get out k ≡ Some link → IsSentLink job.plan frame.code.marks.own.items link
+    link_out k link there = all_at (IsSentLink job.plan frame.code.marks.own.items) out k link out_is there
+
+    first_brings : (k : ℕ) (x : Source) → slice_get sources k ≡ Some x → Brings job 0 x
+    first_brings k x there =
+        let (link, link_there, r, r_there, is) = are k x there in
+        let none = brings_none job frame.code.marks.taken.items link r (link_into k link link_there) is.link_is (receivers k r r_there) in
+        record {
+          ticks = λ open'.
+              subst (λ (e : ReceiverView). BringsTicks job 0 x.flow x.got e) (sym is.rx_is)
+              (subst (λ (n : ℕ). BringsTicks job 0 x.flow n r) (sym is.none) (subst (λ (i : ℕ). BringsTicks job 0 i 0 r) (sym is.flow_is) none));
+        }
+
+    first_sends : (k : ℕ) (x : Outlet) → slice_get outlets k ≡ Some x → Sends job.plan.flat job 0 x
+    first_sends k x there =
+        let (link, link_there, s, s_there, is) = are_out k x there in
+        let sent = link_out k link link_there in
+        let unused = senders k s s_there in
+        let none = sends_none job frame.code.marks.own.items link s sent.own_is is.link_is unused in
+        record {
+          never = subst (λ (i : ℕ). IsNeverNil job.plan.flat i) (sym is.flow_is) sent.never;
+          ticks = λ open'.
+              subst (λ (e : SenderView). SendsTicks job 0 x.flow x.sent e) (sym is.tx_is)
+              (subst (λ (n : ℕ). SendsTicks job 0 x.flow n s) (sym is.none) (subst (λ (i : ℕ). SendsTicks job 0 i 0 s) (sym is.flow_is) none));
+          number = λ open'. is.first ∙ sym (ap length unused.unused) ∙ ap (λ (e : SenderView). length e.put) (sym is.tx_is);
+        }
+
+    pub first_ends : AreEnds job frame 0 sources outlets
+    first_ends = record {
+      sources = first_brings;
+      outlets = first_sends;
+      taken = λ k x there.
+          let (link, link_there, r, r_there, is) = are k x there in
+          let l = link_into k link link_there in
+          subst (IsKnown job frame) (sym is.flow_is) (record { there = l.there; known = taken_known (marked frame.code.marks.own.items link.flow) (marked frame.code.marks.taken.items link.flow) l.is_marked });
+      sent = λ k x there.
+          let (link, link_there, s, s_there, is) = are_out k x there in
+          let l = (link_out k link link_there).own_is in
+          subst (IsKnown job frame) (sym is.flow_is) (record { there = l.there; known = own_known (marked frame.code.marks.own.items link.flow) (marked frame.code.marks.taken.items link.flow) l.is_marked });
+    }
 
 -- nothing lies before instant 0
 pub first_past : (job : JobView) (frame : Frame) (columns : List Column) → All (λ (column : Column). column.items ≡ []) columns → IsPast job frame 0 columns
@@ -119,20 +159,13 @@ first_past job frame columns empty = record {
 }
 
 -- a site that has these parts before its first block goes on from there
-pub first_going : (x : RowSite) (job : JobView) (own taken : List Bool) → x.job.value ≡ job → x.frame.own.items ≡ own → x.frame.taken.items ≡ taken → x.t ≡ 0 → x.len ≤ job.inputs.instants → IsFrame job x.site x.frame → IsFirstBoard taken x.board → ((i : ℕ) → marked x.sure.items i ≡ false)
-    → All (IsFirstSource job) x.sources.items → All (IsTakenBy taken) x.sources.items → All (IsFirstOutlet job own) x.outlets.items → All (λ (column : Column). column.items ≡ []) x.columns.items → IsGoing x
-first_going x job own taken job_is own_is taken_is t_is few frame board none sources marks outlets empty =
-    let j = sym job_is in
-    let frame' : IsFrame x.job.value x.site x.frame = subst (λ (r : JobView). IsFrame r x.site x.frame) j frame in
-    let board' : IsFirstBoard x.frame.taken.items x.board = subst (λ (bs : List Bool). IsFirstBoard bs x.board) (sym taken_is) board in
-    let marks' : All (IsTakenBy x.frame.taken.items) x.sources.items = subst (λ (bs : List Bool). All (IsTakenBy bs) x.sources.items) (sym taken_is) marks in
-    let sources' : All (IsFirstSource x.job.value) x.sources.items = subst (λ (r : JobView). All (IsFirstSource r) x.sources.items) j sources in
-    let outlets' : All (IsFirstOutlet x.job.value x.frame.own.items) x.outlets.items =
-    subst (λ (r : JobView). All (IsFirstOutlet r x.frame.own.items) x.outlets.items) j (subst (λ (bs : List Bool). All (IsFirstOutlet job bs) x.outlets.items) (sym own_is) outlets) in
-    record {
-      frame = frame';
-      within = let all = frame.instants in omega (arith, t_is, few, all);
-      sheet = subst (λ (t : ℕ). IsSheet x.job.value x.frame t x.len x.board x.sure.items) (sym t_is) (first_sheet x.job.value x.frame x.len x.board x.sure.items board' none);
-      ends = subst (λ (t : ℕ). AreEnds x.job.value x.frame t x.sources.items x.outlets.items) (sym t_is) (first_ends x.job.value x.frame x.sources.items x.outlets.items sources' marks' outlets');
+pub first_going : (x : RowSite) (job : JobView) (site : ℕ) → x.job.value ≡ job → x.site ≡ site → x.t ≡ 0 → 0 + x.len ≤ x.frame.instants → IsFrame job site x.frame → IsFirstBoard x.frame.code.marks.taken.items x.board → ((i : ℕ) → marked x.sure.items i ≡ false) → AreEnds job x.frame 0 x.sources.items x.outlets.items
+    → All (λ (column : Column). column.items ≡ []) x.columns.items → IsGoing x
+first_going x job site job_is site_is t_is few frame board none ends empty =
+    let j = sym job_is in record {
+      frame = subst (λ (r : JobView). IsFrame r x.site x.frame) j (subst (λ (s : ℕ). IsFrame job s x.frame) (sym site_is) frame);
+      within = omega (arith, t_is, few);
+      sheet = subst (λ (t : ℕ). IsSheet x.job.value x.frame t x.len x.board x.sure.items) (sym t_is) (first_sheet x.job.value x.frame x.len x.board x.sure.items board none);
+      ends = subst (λ (t : ℕ). AreEnds x.job.value x.frame t x.sources.items x.outlets.items) (sym t_is) (subst (λ (r : JobView). AreEnds r x.frame 0 x.sources.items x.outlets.items) j ends);
       past = subst (λ (t : ℕ). IsPast x.job.value x.frame t x.columns.items) (sym t_is) (first_past x.job.value x.frame x.columns.items empty);
     }

@@ -14,14 +14,13 @@ use Rattle.lublock_kernels.specs.declared.span.Span.{Span}
 use Rattle.lublock_kernels.specs.Blocks.{Holds, datum_at, kind_at}
 use Rattle.lublock_kernels.specs.Parts.{Part, message_at}
 use Rattle.lublock_kernels.specs.Rows.{Keeps, word_in}
-use Rattle.lublock_kernels.specs.Machine.{row_of, row_there, upto_there, upto_of, ticks_of, known_of, supposed_of, block_of, Stands, AreMarked}
+use Rattle.lublock_kernels.specs.Machine.{row_of, upto_there, upto_of, ticks_of, known_of, supposed_of, block_of, Stands, AreMarked}
 use Rattle.lublock_kernels.proofs.Steps.{came_more, get_same, len_set, marked_set}
 use Rattle.lublock.specs.declared.board.Board.{Board}
-use Rattle.lublock.specs.Boards.{StandsOn, KeepsSettled}
+use Rattle.lublock.specs.Boards.{KeepsSettled}
 use Rattle.lublock.proofs.Settling.{settled_further}
 use Rattle.luflow.specs.declared.message.Msg.{Msg}
 use Rattle.luflow.proofs.Solutions.{some_at}
-use Rattle.lublock_site.specs.Sites.{value_message}
 use Rattle.lublock_site.specs.Steps.{AreComing, AreWordsOf, AreMessagesOf, HasTakenMessages, IsMessageOf}
 use Rattle.lublock_site.specs.Stations.{AreMessagesOut}
 use Rattle.lublock_site.specs.declared.outlets.Outlet.{Outlet}

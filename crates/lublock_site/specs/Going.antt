@@ -1,22 +1,22 @@
 -- Where a site in rows stands.
-use Rattle.std.specs.Prelude.{◌≡◌, ◌≢◌, ℕ, ◌+◌, ◌<◌, ◌≤◌, Bool, true, List, Vec, ℤ, length, Some, slice_get}
+use Rattle.std.specs.Prelude.{◌≡◌, ◌≢◌, ℕ, ◌+◌, ◌<◌, ◌≤◌, Bool, true, List, Vec, ℤ, Some, slice_get}
 use Rattle.std.specs.Prelude.{slice_set}
 use Rattle.std.specs.Arc.{arc_value}
 use Rattle.std.specs.declared.alloc.Global.{Global}
-use Rattle.luflow.specs.Program.{InputsView, flow_at, flows_of}
+use Rattle.luflow.specs.Program.{flows_of}
 use Rattle.luflow.specs.Program.{FlatView}
-use Rattle.luflow.specs.Streams.{Streams, Broken}
-use Rattle.luworld.specs.Needs.{sites_of, stands}
+use Rattle.luflow.specs.Streams.{Broken}
 use Rattle.luworld.specs.Jobs.{JobView, IsJobView, streams_of}
+use Rattle.luplace.specs.SiteInputsViews.{columns_at, given_data}
 use Rattle.lublock_kernels.specs.declared.span.Span.{Span}
-use Rattle.lublock_kernels.specs.Parts.{Part, IsPart, knows}
+use Rattle.lublock_kernels.specs.Parts.{Part, knows}
 use Rattle.lublock_kernels.specs.Machine.{ticks_of}
 use Rattle.lublock.specs.declared.board.Board.{Board}
 use Rattle.lublock.specs.Boards.{StandsOn}
 use Rattle.lublock.specs.Shown.{Column, AreNear}
-use Rattle.lublock_site.specs.Marks.{marked, marked_part}
+use Rattle.lublock_site.specs.Marks.{marked_part}
+use Rattle.lublock_site.specs.Codes.{IsCode}
 use Rattle.lublock_site.specs.Sure.{AreSure}
-use Rattle.lublock_site.specs.Given.{AreGiven}
 use Rattle.lublock_site.specs.Stations.{Brings, Sends, HasBrought, HasSent, IsLater, MayClose, MaySend}
 use Rattle.lublock_site.specs.Blocks.{AreAllSure, HaveBrought, HaveSent}
 use Rattle.lublock_site.specs.declared.sources.Source.{Source}
@@ -26,26 +26,22 @@ use Rattle.lublock_site.specs.declared.site.RowSite.{RowSite}
 
 -- the flows that a site computes and takes
 abbrev pub part_in : Frame → Part
-part_in frame = marked_part frame.own.items frame.taken.items
+part_in frame = marked_part frame.code.marks.own.items frame.code.marks.taken.items
 
--- What stays is that of a site of a run: its flows are a part of the program, with all that stand there, and
--- its inputs have their columns.
+-- What stays is that of a site of a run: its code is of the site's part of the plan, and it has the columns
+-- of its own inputs and no others.
 pub record IsFrame (job : JobView) (site : ℕ) (frame : Frame) : Type 0 where
   pub run : IsJobView job
-  pub inside : site < sites_of job.plan
-  pub flat : arc_value frame.flat ≡ job.plan.flat
-  pub part : IsPart job.plan.flat (part_in frame)
-  pub own : (i : ℕ) → i < flows_of job.plan.flat → stands job.plan i site ≡ true
-      → marked frame.own.items i ≡ true
-  pub given : AreGiven job.inputs frame.given.items
-  pub needs : (k v : ℕ) → slice_get frame.needs.items k ≡ Some v → knows (part_in frame) v ≡ true
+  pub code : IsCode job.plan site frame.code
+  pub given : given_data frame.given.items ≡ columns_at job site
   pub instants : frame.instants ≡ job.inputs.instants
 
 -- The rows stand in the block, and of some flows all is sure.
 pub record IsSheet (job : JobView) (frame : Frame) (t len : ℕ) (board : Board)
     (marks : List Bool) : Type 0 where
   pub stands : StandsOn (part_in frame) job.plan.flat job.inputs (streams_of job) t len board
-  pub sure : AreSure job.plan.flat frame.own.items frame.taken.items board.spans.items marks
+  pub sure : AreSure job.plan.flat frame.code.marks.own.items frame.code.marks.taken.items board.spans.items
+      marks
 
 -- a flow that is computed or taken here
 pub record IsKnown (job : JobView) (frame : Frame) (i : ℕ) : Type 0 where
@@ -104,6 +100,7 @@ HasSentAt flat k outlets outlets' = (x : Outlet) → slice_get outlets k ≡ Som
 
 -- all is found in the block, and all ticks of the links were passed
 pub record IsWholeSite (x : RowSite) : Type 0 where
-  pub sure : AreAllSure (flows_of (arc_value x.frame.flat)) x.frame.own.items x.frame.taken.items x.sure.items
+  pub sure : AreAllSure (flows_of (arc_value x.frame.code.flat)) x.frame.code.marks.own.items
+      x.frame.code.marks.taken.items x.sure.items
   pub brought : HaveBrought x.board.spans.items x.sources.items
   pub sent : HaveSent x.board.spans.items x.outlets.items

@@ -4,10 +4,9 @@ pub mod Marks
 pub mod Stations
 pub mod Sure
 pub mod Given
-pub mod Tries
 pub mod Going
 pub mod Blocks
-pub mod RowStations
 pub mod Reporting
 pub mod Insides
+pub mod Codes
 pub mod Starts

@@ -1,13 +1,6 @@
--- What a site reports of its outputs when it has ended.
-use Rattle.std.specs.Prelude.{◌≡◌, ◌⊎◌, ℕ, List, [], Vec, All, Some, map, slice_get, slice_set}
-use Rattle.std.specs.declared.alloc.Global.{Global}
-use Rattle.luflow.specs.declared.data.Status.{Status}
-use Rattle.luflow.specs.Program.{FlatView, InputsView}
-use Rattle.luflow.specs.Streams.{Streams, Known}
-use Rattle.luflow.specs.Messages.{marks}
-use Rattle.luflow.specs.Solution.{IsSolution}
-use Rattle.luflow.specs.Sound.{IsFit}
-use Rattle.lublock.specs.Shown.{Column, AreNear}
+-- What a site that has ended leaves of the outputs.
+use Rattle.std.specs.Prelude.{◌≡◌, ◌⊎◌, ℕ, List, [], length, Option, Some, None, slice_get}
+use Rattle.lublock.specs.Shown.{Column}
 
 -- of columns each is as it was, or empty now
 abbrev pub AreLess : List Column → List Column → Type 0
@@ -19,10 +12,23 @@ pub record IsTakenOut (old : List Column) (v : ℕ) (column : Column) (new : Lis
   pub there : slice_get old v ≡ Some column
   pub less : AreLess old new
 
--- each of these outputs, by the number of its variable, has all its statuses in the solution that the columns
--- are near
-abbrev pub AreReportedColumns : FlatView → List Column → ℕ → List (ℕ × Column) → Type 0
-AreReportedColumns flat columns instants outputs =
-    (inputs : InputsView) (σ : Streams) → IsFit flat inputs → IsSolution flat inputs σ
-    → inputs.instants ≡ instants → AreNear flat σ instants columns
-    → All (λ (o : ℕ × Column). map Known o.1.items ≡ marks (σ o.0) instants) outputs
+-- the row of an output: its column, with so many statuses, or an empty one elsewhere
+abbrev pub IsOutputRow : List Column → ℕ → Option ℕ → Column → Type 0
+IsOutputRow columns instants None row = row.items ≡ []
+IsOutputRow columns instants (Some v) row = (slice_get columns v ≡ Some row) × (length row.items ≡ instants)
+
+-- the row of an output, from columns that are these or empty
+abbrev pub IsRowIn : List Column → ℕ → Option ℕ → Column → Type 0
+IsRowIn columns instants output row = (left : List Column) × AreLess columns left
+    × IsOutputRow left instants output row
+
+-- each row is that of the output at its place
+abbrev pub AreRowsIn : List Column → ℕ → List (Option ℕ) → List Column → Type 0
+AreRowsIn columns instants outputs rows = (k : ℕ) (output : Option ℕ) (row : Column)
+    → slice_get outputs k ≡ Some output → slice_get rows k ≡ Some row → IsRowIn columns instants output row
+
+-- a row for each of these outputs
+pub record AreOutputRows (columns : List Column) (instants : ℕ) (outputs : List (Option ℕ))
+    (rows : List Column) : Type 0 where
+  pub len : length rows ≡ length outputs
+  pub each : AreRowsIn columns instants outputs rows

@@ -4,15 +4,15 @@ ghost use Rattle.std.specs.Prelude.{◌≡◌, ◌≤◌, ◌+◌, ℕ, true, fa
 ghost use Rattle.lublock_site.specs.Marks.{marked};
 ghost use Rattle.lublock_site.specs.Blocks.{AreAllSure, AreOutletsBegun, AreSourcesBegun, HaveBrought, HaveSent};
 ghost use Rattle.lublock_site.specs.Going.{IsGoing, IsSameRun, IsWholeSite};
-ghost use Rattle.lublock_site.specs.Tries.{IfGoes};
+ghost use Rattle.luworld.specs.Turns.{IfGoes};
 
 use crate::outlets::Outlet;
 use crate::parts::is_marked;
-use crate::site::{INSTANTS, RowSite, ticks_at};
+use crate::site::{RowSite, ticks_at};
 use crate::sources::Source;
-use crate::tried::Tried;
 use lublock::{clear_others, show_part};
 use lublock_kernels::span::Span;
+use luworld::Turn;
 
 /// Whether of so many flows all that are computed or taken here are sure.
 fn are_all_sure(own: &[bool], taken: &[bool], sure: &[bool], count: usize) -> bool
@@ -89,13 +89,12 @@ fn clear(marks: &mut Vec<bool>)
     }
 }
 
-/// How many instants a block has that begins with instant `t`, of so many in all.
-pub fn next_len(instants: usize, t: usize) -> usize
+/// How many instants a block has that begins with instant `t`, of so many in all; at most `most`.
+pub fn next_len(instants: usize, t: usize, most: usize) -> usize
     requires { t ≤ instants }
     ensures { t + result ≤ instants }
 {
-    let left = instants - t;
-    if left < INSTANTS { left } else { INSTANTS }
+    (instants - t).min(most)
 }
 
 impl RowSite {
@@ -105,10 +104,10 @@ impl RowSite {
     {
         let frame = &self.frame;
         let spans = self.board.spans.as_slice();
-        let count = frame.flat.flows().len();
+        let count = frame.code.flat.flows().len();
         are_all_sure(
-            frame.own.as_slice(),
-            frame.taken.as_slice(),
+            frame.code.marks.own.as_slice(),
+            frame.code.marks.taken.as_slice(),
             self.sure.as_slice(),
             count,
         ) && have_brought(self.sources.as_slice(), spans)
@@ -116,22 +115,22 @@ impl RowSite {
     }
 
     /// Ends the block: keeps what it has of the outputs, and begins the next one.
-    pub fn end_block(&mut self) -> Tried
+    pub fn end_block(&mut self) -> Turn
         requires { IsGoing self.old }
         ensures going { IfGoes result (IsGoing self.new) }
         ensures same { IsSameRun self.old self.new }
     {
         if !self.is_whole() {
-            return Tried::Over;
+            return Turn::Over;
         }
         let frame = &self.frame;
-        let flat = &*frame.flat;
-        let needs = frame.needs.as_slice();
+        let flat = &*frame.code.flat;
+        let needs = frame.code.needs.as_slice();
         let board = &self.board;
         let columns = &mut self.columns;
         match show_part(frame.alloc, flat, board, columns, needs, self.t, self.len) {
             Ok(false) => {}
-            _ => return Tried::Over,
+            _ => return Turn::Over,
         }
         clear_others(flat, &mut self.columns);
         self.board.renew(flat);
@@ -139,8 +138,8 @@ impl RowSite {
         begin_outlets(&mut self.outlets);
         clear(&mut self.sure);
         self.t += self.len;
-        self.len = next_len(frame.instants, self.t);
+        self.len = next_len(frame.instants, self.t, frame.code.block);
         self.at = 0;
-        Tried::Done
+        Turn::Moved
     }
 }

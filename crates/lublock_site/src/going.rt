@@ -2,11 +2,11 @@
 
 ghost use Rattle.std.specs.Prelude.{◌≡◌, true};
 ghost use Rattle.lublock_site.specs.Going.{IsGoing, IsSameRun};
-ghost use Rattle.lublock_site.specs.Tries.{IfGoes};
+ghost use Rattle.luworld.specs.Turns.{IfGoes};
 
 use crate::site::RowSite;
-use crate::tried::Tried;
 use lublock_plan::SiteStep;
+use luworld::Turn;
 
 /// The step of this number; none behind the last one.
 fn step_at(steps: &[SiteStep], at: usize) -> Option<SiteStep> {
@@ -18,7 +18,7 @@ fn step_at(steps: &[SiteStep], at: usize) -> Option<SiteStep> {
 
 impl RowSite {
     /// Does one step of the block at hand.
-    fn block_step(&mut self, step: SiteStep) -> Tried
+    fn block_step(&mut self, step: SiteStep) -> Turn
         requires { IsGoing self.old }
         ensures going { IfGoes result (IsGoing self.new) }
         ensures same { IsSameRun self.old self.new }
@@ -33,7 +33,7 @@ impl RowSite {
     }
 
     /// Does one step behind the last block.
-    fn close_step(&mut self, step: SiteStep) -> Tried
+    fn close_step(&mut self, step: SiteStep) -> Turn
         requires { IsGoing self.old }
         ensures going { IfGoes result (IsGoing self.new) }
         ensures same { IsSameRun self.old self.new }
@@ -41,7 +41,7 @@ impl RowSite {
         match step {
             SiteStep::Take(k, _, _) => self.take_close_step(k),
             SiteStep::Put(k) => self.put_close_step(k),
-            SiteStep::Column(_, _) | SiteStep::Cycle(_) | SiteStep::Sure(_, _) => Tried::Done,
+            SiteStep::Column(_, _) | SiteStep::Cycle(_) | SiteStep::Sure(_, _) => Turn::Moved,
         }
     }
 
@@ -65,12 +65,12 @@ impl RowSite {
     pub fn has_ended(&self) -> bool
         ensures { result ≡ true → self.now.t ≡ self.now.frame.instants }
     {
-        self.is_behind() && self.frame.steps.len() <= self.at
+        self.is_behind() && self.frame.code.order.steps.len() <= self.at
     }
 
     /// How many ticks, or closes, the end at hand has passed in the block.
     pub fn passed(&self) -> usize {
-        match step_at(self.frame.steps.as_slice(), self.at) {
+        match step_at(self.frame.code.order.steps.as_slice(), self.at) {
             Some(SiteStep::Take(k, _, _)) => match self.sources.as_slice().get(k) {
                 Some(source) => source.got,
                 None => 0,
@@ -84,30 +84,30 @@ impl RowSite {
     }
 
     /// Does what is next: a step, or the end of the block. Where it is over the site can't go on.
-    pub fn go(&mut self) -> Tried
+    pub fn go(&mut self) -> Turn
         requires { IsGoing self.old }
         ensures going { IfGoes result (IsGoing self.new) }
         ensures same { IsSameRun self.old self.new }
     {
         let behind = self.is_behind();
-        let Some(step) = step_at(self.frame.steps.as_slice(), self.at) else {
+        let Some(step) = step_at(self.frame.code.order.steps.as_slice(), self.at) else {
             if behind {
-                return Tried::Over;
+                return Turn::Over;
             }
             return self.end_block();
         };
-        let tried = if behind {
+        let turn = if behind {
             self.close_step(step)
         } else {
             self.block_step(step)
         };
-        match tried {
-            Tried::Done => {
+        match turn {
+            Turn::Moved => {
                 self.advance();
-                Tried::Done
+                Turn::Moved
             }
-            Tried::Blocked => Tried::Blocked,
-            Tried::Over => Tried::Over,
+            Turn::Blocked => Turn::Blocked,
+            Turn::Over => Turn::Over,
         }
     }
 }

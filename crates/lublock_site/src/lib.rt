@@ -1,5 +1,7 @@
 //! One site's part of a program, in blocks of instants.
 //!
+//! - [`RowCode`]: what is worked out of a site's part of a plan before there are inputs.
+//! - [`RowStation`]: a site with its inputs and the ends of its links, which goes on by blocks.
 //! - [`laws`]: a site's flows are a part of the program, and a link's messages are its flow's data.
 //! - [`parts::is_part`]: a test of whether some flows are a part.
 //! - [`classes::are_classes`]: a test of which flows are never nil.
@@ -10,21 +12,24 @@
 mod block;
 pub mod classes;
 mod close;
+mod code;
+mod code_links;
+mod code_marks;
 mod columns;
-pub mod flats;
 mod going;
 pub mod laws;
 mod outlets;
 pub mod parts;
-pub mod report;
 mod reported;
 mod site;
 mod sources;
 mod start;
 mod start_ends;
-mod start_marks;
 mod start_rows;
-pub mod station;
+mod station;
 mod steps;
 mod sure;
-mod tried;
+mod turns;
+
+pub use code::RowCode;
+pub use station::RowStation;

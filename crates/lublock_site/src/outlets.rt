@@ -2,16 +2,17 @@
 
 ghost use Rattle.std.specs.Prelude.{◌≡◌, ◌<◌, ◌≤◌, ◌+◌, true, length};
 ghost use Rattle.lublock_kernels.specs.Machine.{ticks_of};
-ghost use Rattle.lublock_site.specs.Tries.{IfGoes};
+ghost use Rattle.luworld.specs.Turns.{IfGoes};
 ghost use Rattle.lublock_site.specs.Stations.{AreMessagesOut, HasSent, MayClose, MaySend};
 
 use crate::steps::{fill_run, number_after};
-use crate::tried::{Tried, done_if};
+use crate::turns::moved_if;
 use lublock::row_at;
 use lublock_kernels::forms::kind_at;
 use lublock_kernels::span::Span;
 use luflow::{Body, Flat, Msg};
 use lulink::{Offer, Tx};
+use luworld::Turn;
 
 /// The sending end of a link, the flow that it carries, how many of its ticks in the block it has sent, and the number of its next message.
 #[derive(Drop)]
@@ -58,7 +59,7 @@ fn offer_some(
     outlet: &mut Outlet,
     run: &mut Vec<Msg>,
     to: usize,
-) -> Tried
+) -> Turn
     requires may { MaySend flat.now rows.now spans.now outlet.old }
     requires ticks { to ≡ ticks_of spans.now outlet.old.flow }
     requires few { outlet.old.sent < to }
@@ -66,15 +67,15 @@ fn offer_some(
     ensures closed { outlet.new.closed ≡ outlet.old.closed }
 {
     if !fill(flat, rows, spans, outlet, run, to) {
-        return Tried::Over;
+        return Turn::Over;
     }
     let put = outlet.tx.offer_run(run.as_slice());
     let Some(number) = number_after(outlet.number, put) else {
-        return Tried::Over;
+        return Turn::Over;
     };
     outlet.sent += put;
     outlet.number = number;
-    done_if(put == run.len())
+    moved_if(put == run.len())
 }
 
 /// Puts the messages of the end's next ticks, as many as there is room for and no more than one run. It is over where the receiver has left a
@@ -86,7 +87,7 @@ fn put_some(
     outlet: &mut Outlet,
     run: &mut Vec<Msg>,
     to: usize,
-) -> Tried
+) -> Turn
     requires may { MaySend flat.now rows.now spans.now outlet.old }
     requires ticks { to ≡ ticks_of spans.now outlet.old.flow }
     requires few { outlet.old.sent < to }
@@ -94,13 +95,13 @@ fn put_some(
     ensures closed { outlet.new.closed ≡ outlet.old.closed }
 {
     match offer_some(flat, rows, spans, outlet, run, to) {
-        Tried::Done => Tried::Done,
-        Tried::Over => Tried::Over,
-        Tried::Blocked => {
+        Turn::Moved => Turn::Moved,
+        Turn::Over => Turn::Over,
+        Turn::Blocked => {
             if outlet.tx.gone() {
-                return Tried::Over;
+                return Turn::Over;
             }
-            Tried::Blocked
+            Turn::Blocked
         }
     }
 }
@@ -113,26 +114,26 @@ pub fn put_all(
     outlet: &mut Outlet,
     run: &mut Vec<Msg>,
     to: usize,
-) -> Tried
+) -> Turn
     requires may { MaySend flat.now rows.now spans.now outlet.old }
     requires ticks { to ≡ ticks_of spans.now outlet.old.flow }
     ensures { IfGoes result (HasSent flat.now outlet.old outlet.new) }
 {
     for _n in outlet.sent..to {
         if outlet.sent >= to {
-            return Tried::Done;
+            return Turn::Moved;
         }
         match put_some(flat, rows, spans, outlet, run, to) {
-            Tried::Done => {}
-            Tried::Blocked => return Tried::Blocked,
-            Tried::Over => return Tried::Over,
+            Turn::Moved => {}
+            Turn::Blocked => return Turn::Blocked,
+            Turn::Over => return Turn::Over,
         }
     }
-    Tried::Done
+    Turn::Moved
 }
 
 /// Puts the close of a link, if there is room. It is over where the receiver has left a full link.
-pub fn put_close(flat: &Flat, outlet: &mut Outlet) -> Tried
+pub fn put_close(flat: &Flat, outlet: &mut Outlet) -> Turn
     requires { MayClose flat.now outlet.old }
     ensures { IfGoes result (HasSent flat.now outlet.old outlet.new) }
 {
@@ -144,13 +145,13 @@ pub fn put_close(flat: &Flat, outlet: &mut Outlet) -> Tried
     match outlet.tx.offer(msg) {
         Offer::Done => {
             outlet.closed = true;
-            Tried::Done
+            Turn::Moved
         }
         Offer::Full(_) => {
             if outlet.tx.gone() {
-                return Tried::Over;
+                return Turn::Over;
             }
-            Tried::Blocked
+            Turn::Blocked
         }
     }
 }

@@ -1,24 +1,11 @@
-//! What a site reports of its outputs when it has ended.
+//! What a site that has ended leaves of the outputs.
 
-ghost use Rattle.std.specs.Prelude.{◌≡◌, ◌<◌, [], length, true, IfSome, Some, slice_get};
-ghost use Rattle.luflow.specs.Variables.{is_output};
-ghost use Rattle.luflow.specs.declared.variable.Variable.{Variable};
-ghost use Rattle.lublock_site.specs.Reporting.{AreReportedColumns, IsTakenOut};
+ghost use Rattle.std.specs.Prelude.{◌≡◌, ◌<◌, ◌≤◌, [], length, IfSome, vec_capacity};
+ghost use Rattle.lublock_site.specs.Reporting.{AreLess, AreOutputRows, IsOutputRow, IsTakenOut};
 
-use luflow::{Flat, Status};
+use luflow::Status;
 use std::alloc::Global;
 use std::mem;
-
-/// Whether a main variable is an output.
-fn is_output_at(flat: &Flat, v: usize) -> bool
-    ensures { result ≡ true
-        → (x : Variable) × (slice_get flat.now.variables v ≡ Some x) × (is_output x.role ≡ true) }
-{
-    match flat.variables().get(v) {
-        Some(variable) => variable.role.is_output(),
-        None => false,
-    }
-}
 
 /// Takes a column out.
 fn take_out(alloc: Global, columns: &mut Vec<Vec<Status>>, v: usize) -> Vec<Status>
@@ -28,33 +15,46 @@ fn take_out(alloc: Global, columns: &mut Vec<Vec<Status>>, v: usize) -> Vec<Stat
     mem::replace(&mut columns[v], Vec::new(alloc))
 }
 
-/// These outputs, each with all its statuses; none where some isn't there.
-pub fn reported_outputs(
+/// The row of an output: its column, where it is here, and an empty one elsewhere. None where the column hasn't so many statuses.
+fn output_row(
     alloc: Global,
-    flat: &Flat,
-    reported: &[usize],
-    columns: Vec<Vec<Status>>,
-    outputs: Vec<(usize, Vec<Status>)>,
+    columns: &mut Vec<Vec<Status>>,
+    output: Option<usize>,
     instants: usize,
-) -> Option<Vec<(usize, Vec<Status>)>>
-    requires { outputs.items ≡ [] }
-    ensures { IfSome result (λ xs. AreReportedColumns flat.now columns.items instants xs.items) }
+) -> Option<Vec<Status>>
+    ensures row { IfSome result (IsOutputRow columns.old.items instants output) }
+    ensures less { AreLess columns.old.items columns.new.items }
 {
-    flat.recall_invariant();
-    let mut columns = columns;
-    let mut outputs = outputs;
-    for k in 0..reported.len() {
-        let v = reported[k];
-        if columns.len() <= v || !is_output_at(flat, v) {
-            return None;
-        }
-        let column = take_out(alloc, &mut columns, v);
-        if column.len() != instants {
-            return None;
-        }
-        if outputs.push((v, column)).is_err() {
-            return None;
-        }
+    let Some(v) = output else {
+        return Some(Vec::new(alloc));
+    };
+    if columns.len() <= v {
+        return None;
     }
-    Some(outputs)
+    let row = take_out(alloc, columns, v);
+    if row.len() != instants {
+        return None;
+    }
+    Some(row)
+}
+
+/// A row for each of these outputs, put where there is room for rows. None where a row isn't whole.
+pub fn output_rows(
+    alloc: Global,
+    outputs: &[Option<usize>],
+    columns: Vec<Vec<Status>>,
+    rows: Vec<Vec<Status>>,
+    instants: usize,
+) -> Option<Vec<Vec<Status>>>
+    requires empty { rows.items ≡ [] }
+    requires room { length outputs.now ≤ vec_capacity rows }
+    ensures { IfSome result (λ xs. AreOutputRows columns.items instants outputs.now xs.items) }
+{
+    let mut columns = columns;
+    let mut rows = rows;
+    for k in 0..outputs.len() {
+        let row = output_row(alloc, &mut columns, outputs[k], instants)?;
+        rows.push_reserved(row);
+    }
+    Some(rows)
 }

@@ -2,43 +2,33 @@
 
 ghost use Rattle.std.specs.Prelude.{◌≡◌, ◌<◌, ◌≤◌, ◌+◌, ℕ, true, false, length, List, Some, slice_get, slice_set};
 ghost use Rattle.lublock_kernels.specs.Machine.{ticks_of};
-ghost use Rattle.lublock_site.specs.Tries.{IfGoes};
+ghost use Rattle.luworld.specs.Turns.{IfGoes};
 ghost use Rattle.lublock_site.specs.Going.{IsGoing, IsSameRun, HasBroughtAt, MaySendAt, HasSentAt};
 
+use crate::code::SiteCode;
 use crate::columns::own_column;
 use crate::outlets::{Outlet, put_all};
 use crate::parts::is_marked;
 use crate::sources::{Source, take_all};
 use crate::sure::admit;
-use crate::tried::Tried;
 use lublock::Board;
 use lublock_kernels::forms::upto_at;
 use lublock_kernels::span::Span;
-use lublock_plan::{Cycle, SiteStep};
+use lublock_plan::Cycle;
 use luflow::{Flat, Inputs, Msg, Status, Values};
 use luplace::Job;
+use luworld::Turn;
 use std::alloc::Global;
 use std::snapshot::Snapshot;
-use std::sync::Arc;
 
-/// The instants of a block.
-pub const INSTANTS: usize = 256;
-
-/// What of a site in rows stays: the program, which flows are computed and which are taken here, the columns of own inputs, the order of its steps,
-/// and the variables whose statuses are kept.
+/// What of a site in rows stays: its code, and the columns of own inputs.
 #[derive(Drop)]
 pub struct Frame {
     pub alloc: Global,
-    pub flat: Arc<Flat>,
-    pub own: Vec<bool>,
-    pub taken: Vec<bool>,
+    pub code: SiteCode,
     pub given: Vec<Option<Values>>,
     /// A table without columns.
     pub none: Inputs,
-    pub steps: Vec<SiteStep>,
-    /// The flows that become sure together, one part after another.
-    pub members: Vec<usize>,
-    pub needs: Vec<usize>,
     pub instants: usize,
 }
 
@@ -79,7 +69,7 @@ fn take_at(
     run: &mut Vec<Msg>,
     k: usize,
     ticks: usize,
-) -> Tried
+) -> Turn
     requires { k < length sources.old.items }
     ensures { IfGoes result
         (HasBroughtAt flat.now k board.old sources.old.items board.new sources.new.items) }
@@ -97,7 +87,7 @@ fn put_at(
     run: &mut Vec<Msg>,
     k: usize,
     to: usize,
-) -> Tried
+) -> Turn
     requires within { k < length outlets.old.items }
     requires may { MaySendAt flat.now rows.now spans.now k outlets.old.items to }
     ensures { IfGoes result (HasSentAt flat.now k outlets.old.items outlets.new.items) }
@@ -108,14 +98,14 @@ fn put_at(
 
 impl RowSite {
     /// Finds all words of own flow i, which has the clock of flow `like`.
-    pub fn column_step(&mut self, i: usize, like: usize) -> Tried
+    pub fn column_step(&mut self, i: usize, like: usize) -> Turn
         requires { IsGoing self.old }
         ensures going { IfGoes result (IsGoing self.new) }
         ensures same { IsSameRun self.old self.new }
     {
         let frame = &self.frame;
         let given = frame.given.as_slice();
-        let flat = &*frame.flat;
+        let flat = &*frame.code.flat;
         let board = &mut self.board;
         if own_column(
             frame.alloc,
@@ -128,67 +118,67 @@ impl RowSite {
             i,
             like,
         ) {
-            return Tried::Over;
+            return Turn::Over;
         }
-        Tried::Done
+        Turn::Moved
     }
 
     /// Goes through cycle k, and supposes what its `pre`s give.
-    pub fn cycle_step(&mut self, k: usize) -> Tried
+    pub fn cycle_step(&mut self, k: usize) -> Turn
         requires { IsGoing self.old }
         ensures going { IfGoes result (IsGoing self.new) }
         ensures same { IsSameRun self.old self.new }
     {
         if self.cycles.len() <= k {
-            return Tried::Over;
+            return Turn::Over;
         }
-        let flat = &*self.frame.flat;
+        let flat = &*self.frame.code.flat;
         if self.board.cycle(flat, self.len, &mut self.cycles[k]) {
-            return Tried::Over;
+            return Turn::Over;
         }
-        Tried::Done
+        Turn::Moved
     }
 
     /// Looks whether these members are found, so that they are sure.
-    pub fn sure_step(&mut self, from: usize, to: usize) -> Tried
+    pub fn sure_step(&mut self, from: usize, to: usize) -> Turn
         requires { IsGoing self.old }
         ensures going { IfGoes result (IsGoing self.new) }
         ensures same { IsSameRun self.old self.new }
     {
         let frame = &self.frame;
-        let Some(flows) = frame.members.as_slice().get(from..to) else {
-            return Tried::Over;
+        let Some(flows) = frame.code.order.members.as_slice().get(from..to) else {
+            return Turn::Over;
         };
-        let flat = &*frame.flat;
+        let flat = &*frame.code.flat;
         if admit(
             flat,
-            frame.own.as_slice(),
+            frame.code.marks.own.as_slice(),
             &mut self.board,
             &mut self.sure,
             flows,
         ) {
-            return Tried::Over;
+            return Turn::Over;
         }
-        Tried::Done
+        Turn::Moved
     }
 
     /// Takes messages of receiving end k into the row of flow i, which has the clock of flow `like`.
-    pub fn take_step(&mut self, k: usize, i: usize, like: usize) -> Tried
+    pub fn take_step(&mut self, k: usize, i: usize, like: usize) -> Turn
         requires { IsGoing self.old }
         ensures going { IfGoes result (IsGoing self.new) }
         ensures same { IsSameRun self.old self.new }
     {
-        let flat = &*self.frame.flat;
+        let flat = &*self.frame.code.flat;
         if self.sources.len() <= k || self.board.count(flat, self.len, i, like) {
-            return Tried::Over;
+            return Turn::Over;
         }
         let source = &self.sources[k];
         let got = upto_at(self.board.spans.as_slice(), i);
         if source.closed || source.flow != i || source.got != got {
-            return Tried::Over;
+            return Turn::Over;
         }
-        if is_marked(self.frame.own.as_slice(), i) {
-            return Tried::Over;
+        if is_marked(self.frame.code.marks.own.as_slice(), i) {
+            return Turn::Over;
         }
         let ticks = ticks_at(self.board.spans.as_slice(), i);
         let run = &mut self.run;
@@ -196,19 +186,19 @@ impl RowSite {
     }
 
     /// Puts messages of sending end k.
-    pub fn put_step(&mut self, k: usize) -> Tried
+    pub fn put_step(&mut self, k: usize) -> Turn
         requires { IsGoing self.old }
         ensures going { IfGoes result (IsGoing self.new) }
         ensures same { IsSameRun self.old self.new }
     {
         if self.outlets.len() <= k {
-            return Tried::Over;
+            return Turn::Over;
         }
         let outlet = &self.outlets[k];
         if outlet.closed || !is_marked(self.sure.as_slice(), outlet.flow) {
-            return Tried::Over;
+            return Turn::Over;
         }
-        let flat = &*self.frame.flat;
+        let flat = &*self.frame.code.flat;
         let spans = self.board.spans.as_slice();
         let to = ticks_at(spans, outlet.flow);
         let rows = self.board.rows.as_slice();

@@ -1,17 +1,18 @@
 //! The receiving ends of a site in rows: messages come into the rows of taken flows. Nothing here waits.
 
 ghost use Rattle.std.specs.Prelude.{◌≡◌, true};
-ghost use Rattle.lublock_site.specs.Tries.{IfGoes};
+ghost use Rattle.luworld.specs.Turns.{IfGoes};
 ghost use Rattle.lublock_site.specs.Steps.{HasTakenMessages};
 ghost use Rattle.lublock_site.specs.Stations.{HasBrought, IsLater};
 
 use crate::steps::write_messages;
-use crate::tried::{Tried, done_if};
+use crate::turns::moved_if;
 use lublock::Board;
 use lublock_kernels::forms::kind_at;
 use lublock_kernels::span::Span;
 use luflow::{Body, Flat, Msg};
 use lulink::Rx;
+use luworld::Turn;
 
 /// The receiving end of a link, the flow that it brings, and how many of its ticks in the block it has brought.
 #[derive(Drop)]
@@ -60,20 +61,20 @@ fn poll_some(
     source: &mut Source,
     run: &mut Vec<Msg>,
     most: usize,
-) -> Tried
+) -> Turn
     ensures { IfGoes result
         (HasBrought flat.now source.old.flow board.old source.old board.new source.new) }
 {
     run.clear();
     let came = source.rx.poll_run(most.min(run.capacity()), run);
     let Some(got) = source.got.checked_add(came) else {
-        return Tried::Over;
+        return Turn::Over;
     };
     if !take_messages(flat, board, source.flow, run.as_slice()) {
-        return Tried::Over;
+        return Turn::Over;
     }
     source.got = got;
-    done_if(came != 0)
+    moved_if(came != 0)
 }
 
 /// Takes the next messages of a link into the row of its flow, at most so many. It is over where the sender has left and nothing is left to
@@ -84,20 +85,20 @@ fn take_some(
     source: &mut Source,
     run: &mut Vec<Msg>,
     most: usize,
-) -> Tried
+) -> Turn
     ensures { IfGoes result
         (HasBrought flat.now source.old.flow board.old source.old board.new source.new) }
 {
     match poll_some(flat, board, source, run, most) {
-        Tried::Done => Tried::Done,
-        Tried::Over => Tried::Over,
-        Tried::Blocked => {
+        Turn::Moved => Turn::Moved,
+        Turn::Over => Turn::Over,
+        Turn::Blocked => {
             if !source.rx.gone() {
-                return Tried::Blocked;
+                return Turn::Blocked;
             }
             match poll_some(flat, board, source, run, most) {
-                Tried::Done => Tried::Done,
-                Tried::Blocked | Tried::Over => Tried::Over,
+                Turn::Moved => Turn::Moved,
+                Turn::Blocked | Turn::Over => Turn::Over,
             }
         }
     }
@@ -110,53 +111,53 @@ pub fn take_all(
     source: &mut Source,
     run: &mut Vec<Msg>,
     ticks: usize,
-) -> Tried
+) -> Turn
     ensures { IfGoes result
         (HasBrought flat.now source.old.flow board.old source.old board.new source.new) }
 {
     for _n in source.got..ticks {
         if source.got >= ticks {
-            return Tried::Done;
+            return Turn::Moved;
         }
         match take_some(flat, board, source, run, ticks - source.got) {
-            Tried::Done => {}
-            Tried::Blocked => return Tried::Blocked,
-            Tried::Over => return Tried::Over,
+            Turn::Moved => {}
+            Turn::Blocked => return Turn::Blocked,
+            Turn::Over => return Turn::Over,
         }
     }
-    Tried::Done
+    Turn::Moved
 }
 
 /// Takes the close of a link, if it is there.
-fn poll_close(source: &mut Source) -> Tried
+fn poll_close(source: &mut Source) -> Turn
     ensures { IfGoes result (IsLater source.old source.new) }
 {
     match source.rx.poll() {
-        None => Tried::Blocked,
+        None => Turn::Blocked,
         Some(msg) => match msg.body {
             Body::Close => {
                 source.closed = true;
-                Tried::Done
+                Turn::Moved
             }
-            Body::Value(_) => Tried::Over,
+            Body::Value(_) => Turn::Over,
         },
     }
 }
 
 /// Takes the close of a link, if it is there. It is over where another message is there, or the sender has left and nothing is left to take.
-pub fn take_close(source: &mut Source) -> Tried
+pub fn take_close(source: &mut Source) -> Turn
     ensures { IfGoes result (IsLater source.old source.new) }
 {
     match poll_close(source) {
-        Tried::Done => Tried::Done,
-        Tried::Over => Tried::Over,
-        Tried::Blocked => {
+        Turn::Moved => Turn::Moved,
+        Turn::Over => Turn::Over,
+        Turn::Blocked => {
             if !source.rx.gone() {
-                return Tried::Blocked;
+                return Turn::Blocked;
             }
             match poll_close(source) {
-                Tried::Done => Tried::Done,
-                Tried::Blocked | Tried::Over => Tried::Over,
+                Turn::Moved => Turn::Moved,
+                Turn::Blocked | Turn::Over => Turn::Over,
             }
         }
     }

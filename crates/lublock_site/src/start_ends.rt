@@ -1,67 +1,56 @@
 //! The ends of a site's links before the first block.
 
-ghost use Rattle.std.specs.Prelude.{◌≡◌, All, IfOk, IfSome};
-ghost use Rattle.lublock_site.specs.RowStations.{IsUnusedReceiver, IsUnusedSender};
-ghost use Rattle.lublock_site.specs.Starts.{AreNeverNil, IsCarried, IsFirstOutlet, IsFirstSource};
+ghost use Rattle.std.specs.Prelude.{◌≡◌, IfOk, IfSome, slice_get};
+ghost use Rattle.lublock_site.specs.Starts.{AreFirstOutlets, AreFirstSources, IsFirstOutlet, IsFirstSource};
 
-use crate::classes::are_classes;
+use crate::code_links::SiteLink;
 use crate::outlets::Outlet;
-use crate::parts::is_marked;
 use crate::sources::Source;
-use lublock_plan::{class_in, never_nil_guess};
-use luflow::Msg;
 use lulink::{Rx, Tx};
-use luplace::{Job, Plan};
 use std::alloc::{AllocError, Global};
 
-/// The flow that a link carries, if the link is one of the plan's and the flow one of its program's.
-fn carried_flow(plan: &Plan, link: usize) -> Option<usize>
-    ensures { IfSome result (IsCarried plan.now link) }
+/// A receiving end as it stands before the first block, if it is one of this link.
+fn source_of(link: SiteLink, rx: Rx) -> Option<Source>
+    ensures { IfSome result (IsFirstSource link rx) }
 {
-    match plan.links().get(link) {
-        Some(found) if found.flow < plan.flat().flows().len() => Some(found.flow),
-        _ => None,
+    if rx.link() != link.link {
+        return None;
     }
-}
-
-/// The most messages of a link that are put or taken at once.
-const RUN: usize = 64;
-
-/// Room for the messages that are put or taken at once: as many as a link holds, but no more than [`RUN`].
-///
-/// # Errors
-///
-/// Out of memory.
-pub fn room_for_run(alloc: Global, plan: &Plan) -> Result<Vec<Msg>, AllocError> {
-    Vec::with_capacity(alloc, usize::from(plan.capacity()).min(RUN))
-}
-
-/// An unused receiving end as it stands before the first block.
-fn source_of(job: &Job, rx: Rx) -> Option<Source>
-    requires { IsUnusedReceiver job.now rx }
-    ensures { IfSome result (IsFirstSource job.now) }
-{
-    let flow = carried_flow(job.plan(), rx.link())?;
     Some(Source {
         rx,
-        flow,
+        flow: link.flow,
         got: 0,
         closed: false,
     })
 }
 
-/// The receiving ends as they stand before the first block. None where some link is none of the plan's.
+fn link_at(links: &[SiteLink], k: usize) -> Option<SiteLink>
+    ensures { result ≡ slice_get links.now k }
+{
+    links.get(k).copied()
+}
+
+/// The receiving ends of these links, in their order, as they stand before the first block. None where the ends aren't those.
 ///
 /// # Errors
 ///
 /// Out of memory.
-pub fn sources_of(alloc: Global, job: &Job, rxs: Vec<Rx>) -> Result<Option<Vec<Source>>, AllocError>
-    requires { All (IsUnusedReceiver job.now) rxs.items }
-    ensures { IfOk result (λ o. IfSome o (λ sources. All (IsFirstSource job.now) sources.items)) }
+pub fn sources_of(
+    alloc: Global,
+    links: &[SiteLink],
+    rxs: Vec<Rx>,
+) -> Result<Option<Vec<Source>>, AllocError>
+    ensures { IfOk result (λ o. IfSome o (λ sources. AreFirstSources links.now rxs.items sources.items)) }
 {
-    let mut sources = Vec::with_capacity(alloc, rxs.len())?;
+    if rxs.len() != links.len() {
+        return Ok(None);
+    }
+    let mut sources = Vec::with_capacity(alloc, links.len())?;
     for rx in rxs {
-        let Some(source) = source_of(job, rx) else {
+        let Some(link) = link_at(links, sources.len()) else {
+            return Ok(None);
+        };
+        let Some(source) = source_of(link, rx) else {
             return Ok(None);
         };
         sources.push(source)?;
@@ -69,69 +58,46 @@ pub fn sources_of(alloc: Global, job: &Job, rxs: Vec<Rx>) -> Result<Option<Vec<S
     Ok(Some(sources))
 }
 
-/// An unused sending end as it stands before the first block, if it carries an own flow that is never nil.
-fn outlet_of(job: &Job, nils: &[bool], own: &[bool], tx: Tx) -> Option<Outlet>
-    requires unused { IsUnusedSender job.now tx }
-    requires never { AreNeverNil job.now.plan.flat nils.now }
-    ensures { IfSome result (IsFirstOutlet job.now own.now) }
+/// A sending end as it stands before the first block, if it is one of this link.
+fn outlet_of(link: SiteLink, tx: Tx) -> Option<Outlet>
+    ensures { IfSome result (IsFirstOutlet link tx) }
 {
-    let flow = carried_flow(job.plan(), tx.link())?;
-    if class_in(nils, flow) || !is_marked(own, flow) {
+    if tx.link() != link.link {
         return None;
     }
     Some(Outlet {
         tx,
-        flow,
+        flow: link.flow,
         sent: 0,
         number: 0,
         closed: false,
     })
 }
 
-/// The sending ends as they stand before the first block, where flows are never nil by these classes.
-fn outlets_by(
-    alloc: Global,
-    job: &Job,
-    nils: &[bool],
-    own: &[bool],
-    txs: Vec<Tx>,
-) -> Result<Option<Vec<Outlet>>, AllocError>
-    requires unused { All (IsUnusedSender job.now) txs.items }
-    requires never { AreNeverNil job.now.plan.flat nils.now }
-    ensures { IfOk result
-        (λ o. IfSome o (λ outlets. All (IsFirstOutlet job.now own.now) outlets.items)) }
-{
-    let mut outlets = Vec::with_capacity(alloc, txs.len())?;
-    for tx in txs {
-        let Some(outlet) = outlet_of(job, nils, own, tx) else {
-            return Ok(None);
-        };
-        outlets.push(outlet)?;
-    }
-    Ok(Some(outlets))
-}
-
-/// The sending ends as they stand before the first block. None where some link is none of the plan's, carries a flow that isn't computed here, or
-/// one that may be nil.
+/// The sending ends of these links, in their order, as they stand before the first block. None where the ends aren't those.
 ///
 /// # Errors
 ///
 /// Out of memory.
 pub fn outlets_of(
     alloc: Global,
-    job: &Job,
-    own: &[bool],
+    links: &[SiteLink],
     txs: Vec<Tx>,
 ) -> Result<Option<Vec<Outlet>>, AllocError>
-    requires { All (IsUnusedSender job.now) txs.items }
-    ensures { IfOk result
-        (λ o. IfSome o (λ outlets. All (IsFirstOutlet job.now own.now) outlets.items)) }
+    ensures { IfOk result (λ o. IfSome o (λ outlets. AreFirstOutlets links.now txs.items outlets.items)) }
 {
-    let flat = job.plan().flat();
-    let guess = never_nil_guess(alloc, flat)?;
-    let nils = guess.as_slice();
-    if !are_classes(flat, nils) {
+    if txs.len() != links.len() {
         return Ok(None);
     }
-    outlets_by(alloc, job, nils, own, txs)
+    let mut outlets = Vec::with_capacity(alloc, links.len())?;
+    for tx in txs {
+        let Some(link) = link_at(links, outlets.len()) else {
+            return Ok(None);
+        };
+        let Some(outlet) = outlet_of(link, tx) else {
+            return Ok(None);
+        };
+        outlets.push(outlet)?;
+    }
+    Ok(Some(outlets))
 }

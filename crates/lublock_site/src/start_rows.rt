@@ -1,63 +1,14 @@
-//! What a site has before its first block: the columns of its own inputs, its rows, and its columns of statuses, which are empty.
+//! What a site has before its first block: its rows, and its columns of statuses, which are empty.
 
-ghost use Rattle.std.specs.Prelude.{◌≡◌, ◌<◌, [], All, IfOk, IfSome, length, map, slice_get};
-ghost use Rattle.luflow.specs.Packed.{data_in};
-ghost use Rattle.luflow.specs.Program.{data_of};
-ghost use Rattle.luflow.specs.Tables.{columns_view};
-ghost use Rattle.lublock_site.specs.Given.{AreGiven};
+ghost use Rattle.std.specs.Prelude.{◌≡◌, [], All, IfOk, map};
 ghost use Rattle.lublock_site.specs.Starts.{IsFirstBoard, first_span};
 
+use crate::code_marks::Marks;
 use crate::parts::is_marked;
-use crate::start_marks::Marks;
 use lublock::{Board, empty_columns};
 use lublock_kernels::span::Span;
-use luflow::{Flat, Status, Values};
-use luplace::{Job, Plan};
+use luflow::{Flat, Status};
 use std::alloc::{AllocError, Global};
-
-/// The values of the column of this number.
-fn values_at(columns: &[(String, Values)], c: usize) -> &Values
-    requires { c < length columns.now }
-    ensures { data_in result.now ≡ data_of (slice_get (columns_view columns.now) c) }
-{
-    &columns[c].1
-}
-
-/// A copy of the column of input c, if the input stands at the site.
-fn given_column(
-    alloc: Global,
-    plan: &Plan,
-    columns: &[(String, Values)],
-    c: usize,
-    site: u8,
-) -> Result<Option<Values>, AllocError>
-    requires { c < length columns.now }
-    ensures { IfOk result (λ o. IfSome o
-        (λ values. data_in values ≡ data_of (slice_get (columns_view columns.now) c))) }
-{
-    if !plan.stands(c, site) {
-        return Ok(None);
-    }
-    let values = values_at(columns, c);
-    Ok(Some(values.first(alloc, values.len())?))
-}
-
-/// Copies of the columns of a site's own inputs, by the numbers of the inputs.
-///
-/// # Errors
-///
-/// Out of memory.
-pub fn given_columns(alloc: Global, job: &Job, site: u8) -> Result<Vec<Option<Values>>, AllocError>
-    ensures { IfOk result (λ given. AreGiven job.now.inputs given.items) }
-{
-    let plan = job.plan();
-    let columns = job.inputs().columns();
-    let mut given = Vec::with_capacity(alloc, columns.len())?;
-    for c in 0..columns.len() {
-        given.push(given_column(alloc, plan, columns, c, site)?)?;
-    }
-    Ok(given)
-}
 
 /// How far a flow is before the first block, which is marked as taken or not.
 fn first_span(mark: bool) -> Span

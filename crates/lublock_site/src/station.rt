@@ -1,47 +1,32 @@
 //! One site that goes on by blocks of instants, over the ends of its links.
 
-ghost use Rattle.std.specs.Prelude.{◌≡◌, ℕ, ◌+◌, ◌<◌, ◌≤◌, IfOk, IfSome, Some, slice_get};
-ghost use Rattle.std.specs.Arc.{arc_value};
-ghost use Rattle.luworld.specs.Needs.{sites_of};
-ghost use Rattle.lulink.specs.Views.{SenderView, ReceiverView};
-ghost use Rattle.lublock_site.specs.Tries.{is_over};
-ghost use Rattle.lublock_site.specs.RowStations.{IsRowAt, IsUnusedSender, IsUnusedReceiver};
+ghost use Rattle.std.specs.Prelude.{◌≡◌, ℕ, ◌+◌, ◌≤◌, IfOk, IfSome, Some, map, slice_get};
+ghost use Rattle.luworld.specs.Sites.{AreWholeOutputs, IsSiteOfJob, IsSoundAt};
+ghost use Rattle.lulink.specs.Views.{IsUnusedReceiver, IsUnusedSender, ReceiverView, SenderView};
 
-use crate::report::RowReport;
-use crate::reported::reported_outputs;
-use crate::site::{Frame, RowSite};
+use crate::code::RowCode;
+use crate::reported::output_rows;
+use crate::site::RowSite;
 use crate::start::start;
-use crate::tried::Tried;
-use luflow::{Flat, Status};
+use crate::turns::{is_over, moved_if};
+use luflow::Status;
 use lulink::{EndTally, Rx, Tx};
-use luplace::Job;
+use luplace::SiteInputs;
+use luworld::Turn;
 use std::alloc::{AllocError, Global};
 use std::marker::Model;
-use std::snapshot::Snapshot;
-use std::sync::Arc;
 
 /// How many steps a station does before another one has its turn.
 const STEPS: u32 = 4096;
-
-/// What came of a station's going on.
-#[derive(Clone, Copy, Debug, Drop, PartialEq, Eq)]
-pub enum Went {
-    /// It did something, and is blocked now or lets others go on.
-    Moved,
-    /// Nothing could be done: a link is empty or full.
-    Blocked,
-    /// The site has ended, or can't go on.
-    Over,
-}
 
 /// A site that works in blocks of instants, and the ends of its links. A contract sees its job and its site. One that is
 /// dropped leaves its ends.
 pub struct RowStation {
     inner: RowSite,
-    /// The outputs that the site reports, and room for them.
-    reported: Vec<usize>,
-    outputs: Vec<(usize, Vec<Status>)>,
-    sites: u8,
+    /// For each output of the main node its variable where the site is its home.
+    outputs: Vec<Option<usize>>,
+    /// Room for a row for each output.
+    rows: Vec<Vec<Status>>,
     /// Whether it can't go on.
     cut: bool,
 }
@@ -51,66 +36,54 @@ impl Drop for RowStation {
     fn drop(self) {
         let Self {
             inner: _,
-            reported: _,
             outputs: _,
-            sites: _,
+            rows: _,
             cut: _,
         } = self;
     }
 }
 
 impl Model for RowStation {
-    ghost use Rattle.lublock_site.specs.RowStations.{RowStationView};
+    ghost use Rattle.luworld.specs.Sites.{SiteOfJob};
     ghost use Rattle.lublock_site.specs.Insides.{IsStation};
 
-    ghost Value = { RowStationView };
+    ghost Value = { SiteOfJob };
 
     ghost view = { λ a. record { job = a.inner.job.value; site = a.inner.site } };
 
     ghost invariant = { IsStation };
 }
 
-fn is_over(tried: Tried) -> bool
-    ensures { result ≡ is_over tried }
-{
-    match tried {
-        Tried::Done | Tried::Blocked => false,
-        Tried::Over => true,
-    }
-}
-
 impl RowStation {
-    /// A new station from the unused ends of all links of its site. None where a link's end is missing, or the site's part of the program
-    /// can't be run by blocks.
+    /// A new station of a site whose code was made before, from the site's inputs and the unused ends of all its links. None where an end isn't there
+    /// that the code names, in order of links.
     ///
     /// # Errors
     ///
     /// An error means that memory ran out. The ends are left then.
     pub fn new(
         alloc: Global,
-        job: &Job,
-        site: u8,
-        flat: Arc<Flat>,
+        code: RowCode,
+        inputs: SiteInputs,
         txs: Vec<Tx>,
         rxs: Vec<Rx>,
     ) -> Result<Option<RowStation>, AllocError>
-        requires site { site < sites_of job.now.plan }
-        requires flat { arc_value flat ≡ job.now.plan.flat }
+        requires plan { code.plan ≡ inputs.job.plan }
+        requires site { code.site ≡ inputs.site }
         requires senders { (k : ℕ) (t : SenderView) → slice_get txs.items k ≡ Some t
-            → IsUnusedSender job.now t }
+            → IsUnusedSender inputs.job t }
         requires receivers { (k : ℕ) (t : ReceiverView) → slice_get rxs.items k ≡ Some t
-            → IsUnusedReceiver job.now t }
-        ensures { IfOk result (λ o. IfSome o (λ x. x ≡ record { job = job.now; site = site })) }
+            → IsUnusedReceiver inputs.job t }
+        ensures { IfOk result
+            (λ o. IfSome o (λ x. x ≡ record { job = inputs.job; site = inputs.site })) }
     {
-        let sites = job.plan().sites().len() as u8;
-        match start(alloc, job, site, flat, txs, rxs)? {
-            Some((inner, reported)) => {
-                let outputs = Vec::with_capacity(alloc, reported.len())?;
+        match start(alloc, code.into_parts(), inputs, txs, rxs)? {
+            Some((inner, outputs)) => {
+                let rows = Vec::with_capacity(alloc, outputs.len())?;
                 Ok(Some(RowStation {
                     inner,
-                    reported,
                     outputs,
-                    sites,
+                    rows,
                     cut: false,
                 }))
             }
@@ -121,7 +94,7 @@ impl RowStation {
     /// The number of the site, from 0. Takes no memory.
     pub fn site(&self) -> u8
         ensures site { result ≡ self.now.site }
-        ensures at { IsRowAt self.now }
+        ensures at { IsSiteOfJob self.now }
     {
         self.inner.site
     }
@@ -155,58 +128,55 @@ impl RowStation {
     }
 
     /// Does what is next.
-    fn step(&mut self) -> Tried
+    fn step(&mut self) -> Turn
         ensures { self.new ≡ self.old }
     {
         if self.cut {
-            return Tried::Over;
+            return Turn::Over;
         }
-        let tried = self.inner.go();
-        self.cut = is_over(tried);
-        tried
+        let turn = self.inner.go();
+        self.cut = is_over(turn);
+        turn
     }
 
     /// Goes on until a link is empty or full, or the site is over, or it has done many steps. Never waits, and takes no memory.
-    pub fn go(&mut self) -> Went
+    pub fn go(&mut self) -> Turn
         ensures { self.new ≡ self.old }
     {
         let mut moved = false;
         for _step in 0..STEPS {
             if self.inner.has_ended() {
-                return Went::Over;
+                return Turn::Over;
             }
             let before = self.inner.passed();
             match self.step() {
-                Tried::Done => moved = true,
-                Tried::Blocked => {
-                    if moved || self.inner.passed() != before {
-                        return Went::Moved;
-                    }
-                    return Went::Blocked;
-                }
-                Tried::Over => return Went::Over,
+                Turn::Moved => moved = true,
+                Turn::Blocked => return moved_if(moved || self.inner.passed() != before),
+                Turn::Over => return Turn::Over,
             }
         }
-        Went::Moved
+        Turn::Moved
     }
 
-    /// What the site reports; none where it hasn't ended. The ends are left.
-    pub fn report(self) -> Option<RowReport>
-        ensures { IfSome result (λ r. (r.job ≡ self.job) × (r.site ≡ self.site)) }
+    /// A row for each output of the main node, in order of declaration: all its statuses where the site is its home, and an empty one elsewhere. They
+    /// are moved out of the station, and not copied. None where the site hasn't ended. The ends are left.
+    pub fn outputs(self) -> Option<Vec<Vec<Status>>>
+        ensures sound { IfSome result (λ _. IsSoundAt self.job self.site) }
+        ensures whole { IfSome result
+            (λ rows. AreWholeOutputs self.job self.site (map (λ row. row.items) rows.items)) }
     {
         if self.cut || !self.inner.has_ended() {
             return None;
         }
         let RowStation {
             inner,
-            reported,
             outputs,
-            sites,
+            rows,
             cut: _,
         } = self;
         let RowSite {
-            job,
-            site,
+            job: _,
+            site: _,
             frame,
             cycles: _,
             board: _,
@@ -219,26 +189,12 @@ impl RowStation {
             len: _,
             at: _,
         } = inner;
-        let Frame {
-            alloc,
-            flat,
-            own: _,
-            taken: _,
-            given: _,
-            none: _,
-            steps: _,
-            members: _,
-            needs: _,
-            instants,
-        } = frame;
-        let reported = reported_outputs(
-            alloc,
-            &flat,
-            reported.as_slice(),
+        output_rows(
+            frame.alloc,
+            outputs.as_slice(),
             columns,
-            outputs,
-            instants,
-        )?;
-        Some(RowReport::new(job, site, sites, flat, reported))
+            rows,
+            frame.instants,
+        )
     }
 }

@@ -1,8 +1,7 @@
 -- What the evaluator may answer from where it stands.
 use Rattle.std.proofs.Common.{◌≡◌, ℕ, ◌+◌, ◌<◌, Bool, List, length, set, Some, false, true, refl, sym, ap, subst, ◌∙◌, arith}
-use Rattle.std.specs.Prelude.{slice_index, unwrap_or}
-use Rattle.std.proofs.lemmas.List.Elements.{All-get_or}
-use Rattle.std.proofs.lemmas.Option.{slice_get_within, slice_get-get_or}
+use Rattle.std.specs.Prelude.{All, option_and_then, unwrap_or}
+use Rattle.std.proofs.lemmas.Option.{none-some, same_Some, slice_get_within, slice_get-get_or}
 use Rattle.luflow.specs.declared.data.Datum.{Datum}
 use Rattle.luflow.specs.declared.data.Status.{Status}
 use Rattle.luflow.specs.declared.data.Status.TheVariants.{Present}
@@ -10,16 +9,18 @@ use Rattle.luflow.specs.declared.form.Form.{Form}
 use Rattle.luflow.specs.declared.form.Clock.{Clock}
 use Rattle.luflow.specs.declared.data.Datum.TheVariants as datum
 use Rattle.luflow.specs.declared.form.FaultKind.{FaultKind}
+use Rattle.luflow.specs.declared.form.Flow.{Flow}
 use Rattle.luflow.specs.declared.form.Outcome.TheVariants.{Gives, Stuck}
-use Rattle.luflow.specs.Program.{FlatView, InputsView}
-use Rattle.luflow.specs.Streams.{Streams, Stream, clock_at}
+use Rattle.luflow.specs.Program.{FlatView, InputsView, form_reads, clock_reads}
+use Rattle.luflow.specs.Streams.{Known, Streams, Stream, clock_at}
+use Rattle.luflow.specs.Faults.{IsFaultOn}
 use Rattle.luflow.specs.Messages.{marks}
 use Rattle.luflow.specs.Values.{value_of, value_at}
 use Rattle.luflow.specs.Solution.{IsSolution, solution}
 use Rattle.luflow.specs.FlatLaws.{HasOneSolution}
 use Rattle.luflow.specs.Flats.{IsFlat}
 use Rattle.luflow.specs.Sound.{IsFit}
-use Rattle.luflow.proofs.Solutions.{IsSolution-solution, solutions_same}
+use Rattle.luflow.proofs.Solutions.{IsSolution-solution, solutions_same, all_left}
 use Rattle.luflow.proofs.FaultsFound.{is_fault}
 use Rattle.luflow.proofs.Tidied.{keeps_types}
 use Rattle.lueval_lines.specs.declared.cell.Cell.{Cell}
@@ -27,14 +28,16 @@ use Rattle.lueval_lines.specs.declared.cell.Cell.TheVariants as cell
 use Rattle.lueval_lines.specs.declared.cell.Answer.{Answer}
 use Rattle.lueval_lines.specs.declared.cell.Answer.TheVariants as answer
 use Rattle.lueval_lines.specs.declared.line.Line.{Line}
+use Rattle.lueval.specs.declared.faults.Reads.{Reads}
 use Rattle.lueval.specs.declared.machine.Machine.{Machine}
-use Rattle.lueval_lines.specs.Frames.{clock_in}
+use Rattle.lueval_lines.specs.Frames.{clock_in, IsShown}
 use Rattle.lueval_lines.specs.Cells.{status_of, statuses, outcome_of, given_at, view_of, clock_of, IsLine}
-use Rattle.lueval.specs.Whole.{AreStreams, AreMeant, HasNoFault, IsFirstFault, KeepsAllTypes}
-use Rattle.lueval.specs.Steps.{Stands, StandsAt, Computes}
+use Rattle.lueval.specs.Reads as reading
+use Rattle.lueval.specs.Whole.{AreStreams, AreMeant, HasNoFault, KeepsAllTypes}
+use Rattle.lueval.specs.Steps.{Stands, StandsAt, Computes, IsDatumShown, IsFirst}
 use Rattle.lueval_lines.proofs.Seeing.{statuses_set}
-use Rattle.lueval_lines.proofs.Faults.{fault_broken, fault_same}
-use Rattle.lueval.proofs.Steps.{none_before, clock_here, value_here, not_stuck, step_absent, step_gives}
+use Rattle.lueval_lines.proofs.Faults.{fault_broken}
+use Rattle.lueval.proofs.Steps.{none_before, clock_here, value_here, not_stuck, step_absent, step_gives, reads_shown}
 
 pub one_solution : (flat : FlatView) (inputs : InputsView) → IsFlat flat → HasOneSolution flat inputs
 one_solution flat inputs is_flat = record {
@@ -56,6 +59,23 @@ no_fault flat inputs shown lasts is_flat fit stands σ sol i t kind lt f =
     let one = IsSolution-solution flat inputs is_flat.ordered in
     let li = slice_get_within flat.flows i f.flow f.there in
     stands.sound i t li lt (solutions_same flat inputs (solution flat inputs) σ is_flat.ordered one sol i t li ∙ fault_broken flat inputs σ is_flat fit sol i t kind f)
+
+-- an operand that is shown, by what it has
+shown_datum : (σ : Streams) (shown : List Status) (t a : ℕ) (x : Datum) → IsShown σ shown t a → σ a t ≡ Known (Present x) → IsDatumShown σ shown t a
+shown_datum σ shown t a x w e =
+    let known : Known w.status ≡ Known (Present x) = sym w.is ∙ e in
+    let same : w.status ≡ Present x = cc in
+    record { datum = x; there = w.there ∙ ap (λ (s : Status). Some s) same; is = e }
+
+-- an operator that is at fault reads operands that are shown
+abbrev ReadsShown : Streams → List Status → ℕ → Form → Type 0
+ReadsShown σ shown t form = (r : Reads) × (reading.form_reads form ≡ Some r) × IsDatumShown σ shown t r.left × ((b : ℕ) → r.right ≡ Some b → IsDatumShown σ shown t b)
+
+operands_shown : (σ : Streams) (shown : List Status) (t : ℕ) (kind : FaultKind) (form : Form) → IsFaultOn σ t form kind → All (IsShown σ shown t) (form_reads form) → ReadsShown σ shown t form
+operands_shown σ shown t _ _ (IsFaultOn.OnUnary op a x kind operand fault) h =
+    (reading.one a, refl, shown_datum σ shown t a x (h 0 0 (omega arith)) operand, λ b e. absurd (none-some b e))
+operands_shown σ shown t _ _ (IsFaultOn.OnBinary op a c x y kind left right fault) h =
+    (reading.two a c, refl, shown_datum σ shown t a x (h 0 0 (omega arith)) left, λ b e. subst (IsDatumShown σ shown t) (same_Some c b e) (shown_datum σ shown t c y (h 1 0 (omega arith)) right))
 
 -- what the machine's answers for the line of rank p say of the solution
 module _ (flat : FlatView) (inputs : InputsView) (machine : Machine) (t : ℕ) (branches : List ℕ) (p : ℕ) (line : Line) (is_flat : IsFlat flat) (fit : IsFit flat inputs) (stands : StandsAt flat inputs machine t p) (lp : p < length flat.order) (lt : t < inputs.instants) (at : IsLine flat branches p line) where
@@ -101,19 +121,21 @@ module _ (flat : FlatView) (inputs : InputsView) (machine : Machine) (t : ℕ) (
   gives_next (cell.Number n) on c = present (cell.Number n) (datum.Int n) refl on (value_is (answer.Gives (cell.Number n)) c)
   gives_next (cell.Name k) on c = present (cell.Name k) (datum.Name k) refl on (value_is (answer.Gives (cell.Name k)) c)
 
-  -- a fault at hand is the first of each solution
-  pub first_fault : (kind : FaultKind) → true ≡ unwrap_or (clock_in shown (clock_of line.clock)) false → Computes inputs machine t branches line (answer.Faults kind) → (τ : Streams) → IsSolution flat inputs τ → IsFirstFault flat inputs τ (slice_index flat.owners line.place) t kind
-  first_fault kind on c τ sol =
+  -- a fault at hand is the first
+  pub first_here : (kind : FaultKind) → true ≡ unwrap_or (clock_in shown (clock_of line.clock)) false → Computes inputs machine t branches line (answer.Faults kind) → IsFirst flat inputs shown t p kind
+  first_here kind on c =
       let i = line.place in
-      let lo : i < length flat.owners = let l = slice_get_within flat.flows i at.flow at.there in let n = is_flat.owners_len in omega arith in
       let f = is_fault flat inputs σ i t kind at.flow at.there (clock_is true on) (value_is (answer.Faults kind) c) in
+      let all = all_left (IsShown σ shown t) (form_reads f.flow.form) (clock_reads f.flow.clock) (reads_shown flat inputs σ is_flat fit one_is shown lasts t p stands i f.flow lp at.place f.there) in
+      let operands = operands_shown σ shown t kind f.flow.form f.fault all in
       record {
-        rank = p;
+        shown_len = stands.shown_len;
         place = i;
         ranked = slice_get-get_or flat.order p 0 lp ∙ ap (λ (k : ℕ). Some k) (sym at.place);
-        early = lt;
-        owner = slice_get-get_or flat.owners i 0 lo;
-        inside = All-get_or (λ v. v < length flat.variables) flat.owners i 0 lo is_flat.owners_in;
-        fault = fault_same flat inputs σ is_flat fit one_is τ sol i t kind f;
-        first = λ u q j other there before g. none_before flat inputs σ is_flat fit one_is shown lasts t p stands u q j other there before (fault_same flat inputs τ is_flat fit sol σ one_is j u other g);
+        fault = f;
+        first = λ u q j other there before g. none_before flat inputs σ is_flat fit one_is shown lasts t p stands u q j other there before g;
+        reads = operands.0;
+        reads_are = ap (option_and_then (λ (flow : Flow). reading.form_reads flow.form)) f.there ∙ operands.1;
+        left = operands.2;
+        right = operands.3;
       }

@@ -1,5 +1,6 @@
 mod Ageing
 pub mod Answering
+mod FirstFaults
 pub mod Listing
 mod Steps
 mod Wanting

@@ -56,7 +56,7 @@ module _ (flat : FlatView) (inputs : InputsView) (σ : Streams) (is_flat : IsFla
     read_now : (r : ℕ) → Contains (take p flat.order) r → IsShown σ shown t r
     read_now r c = let w = place_of flat.order p r c in subst (λ (i : ℕ). IsShown σ shown t i) w.3 (stands.now w.0 w.1 w.2)
 
-    reads_shown : (i : ℕ) (flow : Flow) → p < length flat.order → i ≡ slice_index flat.order p → flow_at flat i ≡ Some flow → All (IsShown σ shown t) (reads flow)
+    pub reads_shown : (i : ℕ) (flow : Flow) → p < length flat.order → i ≡ slice_index flat.order p → flow_at flat i ≡ Some flow → All (IsShown σ shown t) (reads flow)
     reads_shown i flow lp e is =
         let is' : flow_at flat (slice_index flat.order p) ≡ Some flow = sym (ap (flow_at flat) e) ∙ is in
         All-weaker (λ r. Contains (take p flat.order) r) (IsShown σ shown t) read_now (reads flow) (is_flat.ordered.reads_first p flow lp is')

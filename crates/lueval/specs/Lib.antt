@@ -1,2 +1,4 @@
+pub mod Faults
+pub mod Reads
 pub mod Steps
 pub mod Whole

@@ -16,7 +16,8 @@ use Rattle.lucore_laws.proofs.Roots.{front, parts, length-front}
 use Rattle.lucore_laws.proofs.Spots.{Spot, spots, equation_spots, length-spots}
 use Rattle.lufault.specs.Parts.{calls_among, rights}
 use Rattle.lufault.specs.Owns.{EquationAmong, is_defined, NoneDefines}
-use Rattle.lufault.specs.Reads.{form_reads, expression_reads}
+use Rattle.lueval.specs.Reads.{form_reads}
+use Rattle.lufault.specs.Reads.{expression_reads}
 use Rattle.lufault.proofs.Operands.{own_at, root_same}
 use Rattle.lufault.proofs.Descent.{Counted, made_is}
 use Rattle.lufault.proofs.Finding.{inner_long, own_reads}

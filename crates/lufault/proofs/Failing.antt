@@ -28,8 +28,9 @@ use Rattle.lucore_laws.proofs.SourceFaults.{FlowFails, FormFails, ReportsAndShow
 use Rattle.lucore_laws.proofs.Well.{Known, IsWell}
 use Rattle.lufault.specs.Parts.{operands, operand_clock, calls_among}
 use Rattle.lufault.specs.Owns.{Among, own_size, sum_made}
-use Rattle.lufault.specs.declared.reads.Reads.{Reads}
-use Rattle.lufault.specs.Reads.{one, two, form_reads, expression_reads}
+use Rattle.lueval.specs.declared.faults.Reads.{Reads}
+use Rattle.lueval.specs.Reads.{one, two, form_reads}
+use Rattle.lufault.specs.Reads.{expression_reads}
 use Rattle.lufault.specs.Sites.{FailsHere}
 use Rattle.lufault.proofs.Operands.{places_each, end_each, own_at}
 use Rattle.lufault.proofs.Descent.{Counted, WellOne, wells, of_middle, AllOf, counted_inside, each_operand, each_spot, each_own, each_own_spot, end_here, start, clock}

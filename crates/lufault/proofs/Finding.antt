@@ -16,7 +16,8 @@ use Rattle.lucore_laws.specs.Layout.Root.{own, at}
 use Rattle.lucore_laws.specs.Sizes.{root_size, made_size}
 use Rattle.lufault.specs.Parts.{operands, operand_clock, calls_among, Part, part_at}
 use Rattle.lufault.specs.Owns.{Among, own_size, sum_made, IsOwn}
-use Rattle.lufault.specs.Reads.{one, two, form_reads, reads_at, moved_by, operand_place, expression_reads}
+use Rattle.lueval.specs.Reads.{one, two, form_reads, reads_at}
+use Rattle.lufault.specs.Reads.{moved_by, operand_place, expression_reads}
 use Rattle.lufault.proofs.Operands.{own_at, root_same}
 use Rattle.lufault.proofs.Descent.{Counted, made_is, own_inside, part_inside, counted_inside, flow_inside, end_here}
 

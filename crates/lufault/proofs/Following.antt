@@ -44,11 +44,12 @@ use Rattle.luinside.proofs.Fits.{fits}
 use Rattle.luinside.proofs.Meaning as meaning
 use Rattle.luinside.proofs.Standing as spots
 use Rattle.luinside.proofs.Standing.{start_at}
-use Rattle.lufault.specs.declared.reads.Reads.{Reads}
+use Rattle.lueval.specs.declared.faults.Reads.{Reads}
 use Rattle.lufault.specs.declared.step.Inside.{Inside}
 use Rattle.lufault.specs.Parts.{operands, calls_among, part_at, right_side}
 use Rattle.lufault.specs.Owns.{Among, IsOwn, InnerAt, RootAt, sum_made}
-use Rattle.lufault.specs.Reads.{form_reads, reads_at, moved_by, expression_reads}
+use Rattle.lueval.specs.Reads.{form_reads, reads_at}
+use Rattle.lufault.specs.Reads.{moved_by, expression_reads}
 use Rattle.lufault.specs.Sites.{FailsHere, IsFaultSite, TellsFaults, ReadsAsItsFlow}
 use Rattle.lufault.specs.declared.step.Step.TheVariants as steps
 use Rattle.lufault.specs.Standing.{VariableAt}

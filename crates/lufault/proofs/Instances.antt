@@ -29,8 +29,9 @@ use Rattle.lucore_laws.proofs.Spots.{node_spots}
 use Rattle.lucore_laws.proofs.Well.{Known}
 use Rattle.lufault.specs.Parts.{Part, part_at, right_side, operands, operand_clock, calls_among, rights}
 use Rattle.lufault.specs.Owns.{Among, EquationAmong, InnerAt, RootAt, own_size, sum_made}
-use Rattle.lufault.specs.declared.reads.Reads.{Reads}
-use Rattle.lufault.specs.Reads.{form_reads, expression_reads}
+use Rattle.lueval.specs.declared.faults.Reads.{Reads}
+use Rattle.lueval.specs.Reads.{form_reads}
+use Rattle.lufault.specs.Reads.{expression_reads}
 use Rattle.lufault.specs.Sites.{FailsHere}
 use Rattle.lufault.proofs.Operands.{own_at}
 use Rattle.lufault.proofs.Descent.{Counted, made_is}

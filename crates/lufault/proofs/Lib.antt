@@ -10,7 +10,4 @@ pub mod Passed
 pub mod Sought
 pub mod Following
 pub mod Stepped
-pub mod Evaluating
-pub mod Ageing
-pub mod Answered
 pub mod Told

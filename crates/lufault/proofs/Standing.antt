@@ -14,7 +14,8 @@ use Rattle.lucore_laws.specs.Sizes.{made_size}
 use Rattle.lucore_laws.proofs.Roots.{get-input, get-other, name_cases, others}
 use Rattle.lufault.specs.Parts.{operands, operand_clock, calls_among}
 use Rattle.lufault.specs.Owns.{Among, NoneDefines, InnerAt, RootAt, sum_made}
-use Rattle.lufault.specs.Reads.{form_reads, reads_at, moved_by, expression_reads}
+use Rattle.lueval.specs.Reads.{form_reads, reads_at}
+use Rattle.lufault.specs.Reads.{moved_by, expression_reads}
 use Rattle.lufault.proofs.Operands.{own_at, places_each, end_each}
 use Rattle.lufault.proofs.Descent.{Counted, own_inside, flow_own, end_here}
 use Rattle.lufault.proofs.Finding.{Located, located, NoCall, own_reads, moved_reads, inner_long}

@@ -5,7 +5,7 @@ use Rattle.std.proofs.lemmas.Option.{slice_get-map}
 use Rattle.lutree.specs.declared.program.Node.{Node}
 use Rattle.lutree.specs.Tree.{Tree, NodeTree, ProgramTree, view, node_view}
 use Rattle.lufault.specs.declared.passing.Own.{Own}
-use Rattle.lufault.specs.declared.reads.Reads.{Reads}
+use Rattle.lueval.specs.declared.faults.Reads.{Reads}
 use Rattle.lufault.specs.declared.step.Inside.{Inside}
 use Rattle.lufault.specs.declared.step.Step.{Step}
 use Rattle.lufault.specs.declared.step.Step.TheVariants as steps

@@ -1,6 +1,5 @@
 -- The operator of the first fault, with the data of its operands.
-use Rattle.std.proofs.Common.{◌≡◌, ℕ, List, [], ◌∷◌, ◌++◌, Option, Some, None, refl, sym, ap, ◌∙◌, subst}
-use Rattle.std.specs.Prelude.{option_map}
+use Rattle.std.proofs.Common.{◌≡◌, ℕ, List, [], ◌∷◌, ◌++◌, Option, Some, None, sym, ap, ◌∙◌, subst}
 use Rattle.std.proofs.lemmas.Option.{same_Some}
 use Rattle.lutree.specs.declared.expr.Condition.{Condition}
 use Rattle.lutree.specs.declared.expr.Prefix.TheVariants.{Data as Data1, Pre as Before}
@@ -17,11 +16,10 @@ use Rattle.luflow.specs.Streams.{Known, Mark, Stream, Streams, Ticks, datum_of}
 use Rattle.luflow.proofs.Solutions.{IsSolution-solution}
 use Rattle.lusource.specs.Source.{Named}
 use Rattle.lucore.specs.Result.{IsFlatOf}
-use Rattle.lufault.specs.declared.faults.FoundFault.{FoundFault}
-use Rattle.lufault.specs.declared.first.FirstFault.{FirstFault}
-use Rattle.lufault.specs.declared.reads.Reads.{Reads}
+use Rattle.lueval.specs.declared.faults.FoundFault.{FoundFault}
+use Rattle.lueval.specs.declared.faults.Reads.{Reads}
 use Rattle.lufault.specs.declared.sites.FaultSite.{FaultSite}
-use Rattle.lufault.specs.Faults.{HasSecond, TellsFirstFault}
+use Rattle.lueval.specs.Faults.{HasSecond, TellsFirstFault}
 use Rattle.lufault.specs.First.{FailsWith, TellsFirst}
 use Rattle.lufault.specs.Sites.{FailsHere, ReadsAsItsFlow, TellsFaults}
 

@@ -13,9 +13,9 @@ use Rattle.luflow.specs.Streams.{Known, Stream, Ticks}
 use Rattle.lusource.specs.Source.{Named, SourceStreams, InstanceHolds, IsSourceSolution, ticks, calls, value}
 use Rattle.lusource.specs.Instances.{instance_at}
 use Rattle.lueval.specs.Whole.{HasNoFault}
-use Rattle.lufault.specs.Faults.{TellsFirstFault}
+use Rattle.lueval.specs.Faults.{TellsFirstFault}
 use Rattle.lufault.specs.Parts.{Part, part_at, right_side}
-use Rattle.lufault.specs.declared.faults.FoundFault.{FoundFault}
+use Rattle.lueval.specs.declared.faults.FoundFault.{FoundFault}
 use Rattle.lufault.specs.declared.first.FirstFault.{FirstFault}
 
 -- In an instance of a node, with its streams as for `value`: the expression is a data operator, on a clock that

@@ -5,6 +5,4 @@ pub mod Sites
 pub mod Passing
 pub mod Standing
 pub mod Steps
-pub mod Faults
 pub mod First
-pub mod Running

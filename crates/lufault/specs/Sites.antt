@@ -17,9 +17,9 @@ use Rattle.lusource.specs.Faults.{OneFails, TwoFail, There}
 use Rattle.lucore_build.specs.Counted.{AreCounted}
 use Rattle.lucore.specs.Result.{IsFlatOf}
 use Rattle.lufault.specs.Parts.{Part, part_at, right_side}
-use Rattle.lufault.specs.declared.reads.Reads.{Reads}
+use Rattle.lueval.specs.declared.faults.Reads.{Reads}
 use Rattle.lufault.specs.declared.sites.FaultSite.{FaultSite}
-use Rattle.lufault.specs.Reads.{reads_at}
+use Rattle.lueval.specs.Reads.{reads_at}
 
 -- In an instance of a node, with its streams as for `value`: the expression is a data operator that is at
 -- fault at t, on a clock that its place demands, where i calls stand before it; and the flows that it reads

@@ -4,7 +4,7 @@ use Rattle.lutree.specs.Tree.{Tree, Trees, NodeTree, ProgramTree, view}
 use Rattle.lutree.specs.Tree as tree
 use Rattle.lustat_rules.specs.Naming.{node_place}
 use Rattle.lufault.specs.declared.passing.Own.{Own}
-use Rattle.lufault.specs.declared.reads.Reads.{Reads}
+use Rattle.lueval.specs.declared.faults.Reads.{Reads}
 use Rattle.lufault.specs.declared.step.Inside.{Inside}
 use Rattle.lufault.specs.declared.step.Step.{Step}
 use Rattle.lufault.specs.declared.step.Step.TheVariants as steps

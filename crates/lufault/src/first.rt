@@ -6,8 +6,8 @@ ghost use Rattle.luflow.specs.Sound.{IsFit};
 ghost use Rattle.lucore.specs.Result.{IsFlatOf};
 ghost use Rattle.lufault.specs.First.{TellsFirst};
 
-use crate::faults::{FoundFault, fault_place};
 use crate::sites::{FaultSite, operator_at};
+use lueval::{FoundFault, fault_place};
 use luflow::{Flat, Inputs};
 use lustat::Checked;
 use std::alloc::{AllocError, Global};

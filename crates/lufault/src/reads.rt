@@ -9,17 +9,10 @@ ghost use Rattle.lufault.specs.Reads.{operand_place, expression_reads};
 
 use crate::passing::{Own, Search, made};
 use lucore_build::{count_of, sum_of};
+use lueval::Reads;
 use lustat_rules::{Catalog, Scope};
 use lutree::{Expr, Infix, Prefix};
 use std::alloc::AllocError;
-
-/// The places of an operator's operands.
-#[derive(Clone, Copy, Drop)]
-pub struct Reads {
-    pub left: usize,
-    /// The right operand; none where the operator has one alone.
-    pub right: Option<usize>,
-}
 
 // The place of a variable; behind all variables where the name is none.
 fn variable_place(scope: &Scope, name: &str) -> usize

@@ -5,10 +5,10 @@ ghost use Rattle.lutree.specs.Tree.{program_view};
 ghost use Rattle.lufault.specs.Reads.{moved_by};
 ghost use Rattle.lufault.specs.Sites.{ReadsAsItsFlow, TellsFaults, Follows};
 
-use crate::reads::Reads;
 use crate::step::{Operator, Step, step_at};
 use lubase::Row;
 use lucore_build::{sizes, sum_of};
+use lueval::Reads;
 use lustat::Checked;
 use lustat_rules::Catalog;
 use std::alloc::{AllocError, Global};

@@ -5,9 +5,10 @@ ghost use Rattle.lutree.specs.Tree.{program_view};
 ghost use Rattle.lufault.specs.Steps.{IsInside, Steps};
 
 use crate::passing::{Own, Search};
-use crate::reads::{Reads, operands_read};
+use crate::reads::operands_read;
 use crate::target::{Standing, find};
 use lubase::Row;
+use lueval::Reads;
 use lustat_rules::Catalog;
 use lutree::Expr;
 use std::alloc::{AllocError, Global};

@@ -11,9 +11,9 @@ use Rattle.luflow.specs.Program.{FlatView, InputsView}
 use Rattle.luflow.specs.Variables.{variable_name}
 use Rattle.lusource.specs.Source.{SourceStreams, IsSourceSolution}
 use Rattle.lueval.specs.Whole.{HasNoFault}
-use Rattle.lufault.specs.declared.faults.FoundFault.{FoundFault}
+use Rattle.lueval.specs.declared.faults.FoundFault.{FoundFault}
 use Rattle.lufault.specs.declared.first.FirstFault.{FirstFault}
-use Rattle.lufault.specs.Faults.{TellsFirstFault}
+use Rattle.lueval.specs.Faults.{TellsFirstFault}
 use Rattle.lufault.specs.First.{IsOperatorOf}
 use Rattle.lufault_text.specs.declared.told.Telling.{Telling}
 use Rattle.lufault_text.specs.declared.told.Telling.TheVariants.{Whole, Other, Unclear}

@@ -21,7 +21,7 @@ use Rattle.luinside.specs.Calls.{names_called}
 use Rattle.lusyn_grammar.specs.Printing.{written}
 use Rattle.lusyn_printer.specs.Canonical.{expression}
 use Rattle.lutab.specs.Text.{datum_text}
-use Rattle.lufault.specs.declared.faults.FoundFault.{FoundFault}
+use Rattle.lueval.specs.declared.faults.FoundFault.{FoundFault}
 
 -- WHERE
 

@@ -6,8 +6,8 @@ use Rattle.lulink.specs.Views.{SenderView, ReceiverView, HasTaken, HasTakenNothi
 use Rattle.lulink.specs.Views.{HasPut, HasPutNothing}
 use Rattle.lulist.specs.declared.ends.Came.{Came}
 use Rattle.lulist.specs.declared.ends.Came.TheVariants.{Value, Close, Nothing, Lost}
-use Rattle.lulist.specs.declared.tried.Tried.{Tried}
-use Rattle.lulist.specs.declared.tried.Tried.TheVariants.{Done, Blocked, Over}
+use Rattle.luworld.specs.declared.turn.Turn.{Turn}
+use Rattle.luworld.specs.declared.turn.Turn.TheVariants.{Moved, Blocked, Over}
 
 -- the next message of the link was taken, which has this value, or nothing was; of a close nothing is said
 abbrev pub HasCome : Came → ReceiverView → ReceiverView → Type 0
@@ -17,7 +17,7 @@ HasCome Nothing r q = HasTakenNothing r q
 HasCome Lost r q = HasTakenNothing r q
 
 -- the message was put, or nothing was
-abbrev pub HasGone : Tried → Msg → SenderView → SenderView → Type 0
-HasGone Done m s t = HasPut m s t
+abbrev pub HasGone : Turn → Msg → SenderView → SenderView → Type 0
+HasGone Moved m s t = HasPut m s t
 HasGone Blocked m s t = HasPutNothing s t
 HasGone Over m s t = Unit {0}

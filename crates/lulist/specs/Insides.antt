@@ -1,15 +1,13 @@
 -- What a station holds.
-use Rattle.std.specs.Prelude.{◌≡◌, false, []}
-use Rattle.std.specs.Arc.{arc_value}
-use Rattle.luworld.specs.Needs.{sites_of}
-use Rattle.lublock_site.specs.RowStations.{IsRowAt}
+use Rattle.std.specs.Prelude.{◌≡◌, ◌≤◌, false, [], length, vec_capacity}
+use Rattle.luworld.specs.Jobs.{outputs_of}
+use Rattle.luworld.specs.Sites.{IsSiteOfJob}
 use Rattle.lulist.specs.declared.station.ListStation.TheInside as station
 use Rattle.lulist.specs.Lists.{IsListing}
 
--- a site of a run, which goes on unless it is cut
+-- a site of a run, which goes on unless it is cut, and room for its outputs
 pub record IsStation (a : station.Inside) : Type 0 where
-  pub at : IsRowAt (record { job = a.inner.job.value; site = a.inner.site })
-  pub flat : arc_value a.flat ≡ a.inner.job.value.plan.flat
-  pub sites : a.sites ≡ sites_of a.inner.job.value.plan
+  pub at : IsSiteOfJob (record { job = a.inner.inputs.job; site = a.inner.inputs.site })
   pub none : a.outputs.items ≡ []
+  pub room : length (outputs_of a.inner.inputs.job.plan) ≤ vec_capacity a.outputs
   pub going : a.cut ≡ false → IsListing a.inner

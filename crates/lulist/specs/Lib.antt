@@ -1,4 +1,3 @@
-pub mod Tries
 pub mod Ends
 pub mod Steps
 pub mod Rows
@@ -9,4 +8,5 @@ pub mod Spans
 pub mod Works
 pub mod Quicks
 pub mod Stations
+pub mod Codes
 pub mod Insides

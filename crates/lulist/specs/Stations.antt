@@ -1,15 +1,14 @@
--- What a station reports that has ended.
-use Rattle.std.specs.Prelude.{◌≡◌, ℕ, List, Some, slice_get}
+-- The main outputs of a station that has ended.
+use Rattle.std.specs.Prelude.{◌≡◌, ℕ, List, [], length, Option, Some, None, slice_get}
 use Rattle.lusite_program.specs.Logs.{Log}
 
--- an output with its statuses: a flow that is noted, by its place, and its log
-pub record IsReportedLog (places noted : List ℕ) (logs : List Log) (output : ℕ × Log) : Type 0 where
-  pub log : ℕ
-  pub number : ℕ
-  pub noted_is : slice_get noted log ≡ Some number
-  pub place_is : slice_get places number ≡ Some output.0
-  pub statuses : slice_get logs log ≡ Some output.1
+-- a row of this output: the log of its flow where it has a number, else an empty one
+abbrev pub IsOutputRow : List ℕ → List Log → Option ℕ → Log → Type 0
+IsOutputRow noted logs (Some k) row = (n : ℕ) × (slice_get noted n ≡ Some k) × (slice_get logs n ≡ Some row)
+IsOutputRow noted logs None row = row.items ≡ []
 
-abbrev pub AreReportedLogs : List ℕ → List ℕ → List Log → List (ℕ × Log) → Type 0
-AreReportedLogs places noted logs outputs = (n : ℕ) (output : ℕ × Log) → slice_get outputs n ≡ Some output
-    → IsReportedLog places noted logs output
+-- a row for each output
+pub record AreOutputRows (reported : List (Option ℕ)) (noted : List ℕ) (logs rows : List Log) : Type 0 where
+  pub len : length rows ≡ length reported
+  pub each : (m : ℕ) (o : Option ℕ) (row : Log) → slice_get reported m ≡ Some o → slice_get rows m ≡ Some row
+      → IsOutputRow noted logs o row

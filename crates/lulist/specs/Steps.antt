@@ -6,8 +6,8 @@ use Rattle.lulist.specs.declared.ends.Came.{Came}
 use Rattle.lulist.specs.declared.ends.Source.{Source}
 use Rattle.lulist.specs.declared.ends.Outlet.{Outlet}
 use Rattle.lulist.specs.declared.ends.Came.TheVariants.{Value, Close, Nothing, Lost}
-use Rattle.lulist.specs.declared.tried.Tried.{Tried}
-use Rattle.lulist.specs.declared.tried.Tried.TheVariants.{Done, Blocked, Over}
+use Rattle.luworld.specs.declared.turn.Turn.{Turn}
+use Rattle.luworld.specs.declared.turn.Turn.TheVariants.{Moved, Blocked, Over}
 
 -- a receiving end has taken its next message, and with it those of all instants before the next one; or
 -- nothing
@@ -29,18 +29,18 @@ HasComeAt e next came old new = (x : Source) → slice_get old e ≡ Some x
     → (y : Source) × (new ≡ slice_set old e y) × HasComeTo next came x y
 
 -- a sending end has put this value or close, or nothing
-abbrev pub HasSent : Tried → ℕ → Outlet → Outlet → Type 0
-HasSent Done next x y = (y.done ≡ next) × (y.number ≡ x.number + 1)
+abbrev pub HasSent : Turn → ℕ → Outlet → Outlet → Type 0
+HasSent Moved next x y = (y.done ≡ next) × (y.number ≡ x.number + 1)
 HasSent Blocked next x y = (y.done ≡ x.done) × (y.number ≡ x.number)
 HasSent Over next x y = Unit {0}
 
-pub record HasGoneFrom (next : ℕ) (tried : Tried) (m : Msg) (x y : Outlet) : Type 0 where
+pub record HasGoneFrom (next : ℕ) (turn : Turn) (m : Msg) (x y : Outlet) : Type 0 where
   pub row : y.row ≡ x.row
   pub closed : y.closed ≡ x.closed
-  pub sent : HasSent tried next x y
-  pub gone : HasGone tried m x.tx y.tx
+  pub sent : HasSent turn next x y
+  pub gone : HasGone turn m x.tx y.tx
 
 -- sending end e has, and the others are as they were
-abbrev pub HasGoneAt : ℕ → ℕ → Tried → Msg → List Outlet → List Outlet → Type 0
-HasGoneAt e next tried m old new = (x : Outlet) → slice_get old e ≡ Some x
-    → (y : Outlet) × (new ≡ slice_set old e y) × HasGoneFrom next tried m x y
+abbrev pub HasGoneAt : ℕ → ℕ → Turn → Msg → List Outlet → List Outlet → Type 0
+HasGoneAt e next turn m old new = (x : Outlet) → slice_get old e ≡ Some x
+    → (y : Outlet) × (new ≡ slice_set old e y) × HasGoneFrom next turn m x y

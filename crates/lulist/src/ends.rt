@@ -3,9 +3,9 @@
 ghost use Rattle.lulink.specs.Views.{IsNextToPut, TakenOrNot};
 ghost use Rattle.lulist.specs.Ends.{HasCome, HasGone};
 
-use crate::tried::Tried;
 use luflow::{Body, Datum, Msg};
 use lulink::{Offer, Rx, Tx};
+use luworld::Turn;
 
 /// The receiving end of a link, the number of the flow that it brings, and the messages of how many instants it has taken.
 #[derive(Drop)]
@@ -75,17 +75,17 @@ pub fn take_one(rx: &mut Rx) -> Came
 }
 
 /// Puts the next message of a link, if there is room. It is over where the receiver has left a full link.
-pub fn put_one(tx: &mut Tx, msg: Msg) -> Tried
+pub fn put_one(tx: &mut Tx, msg: Msg) -> Turn
     requires { IsNextToPut tx.old msg }
     ensures { HasGone result msg tx.old tx.new }
 {
     match tx.offer(msg) {
-        Offer::Done => Tried::Done,
+        Offer::Done => Turn::Moved,
         Offer::Full(_) => {
             if tx.gone() {
-                return Tried::Over;
+                return Turn::Over;
             }
-            Tried::Blocked
+            Turn::Blocked
         }
     }
 }

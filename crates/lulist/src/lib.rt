@@ -4,18 +4,20 @@
 mod code;
 mod ends;
 mod fitting;
+mod flows;
+mod linking;
 mod making;
 mod order;
+mod outputs;
 mod putting;
 mod quick;
 mod site;
 mod spans;
 mod start;
-mod start_ends;
 mod station;
 mod taking;
-mod tried;
 mod turning;
 mod working;
 
+pub use code::ListCode;
 pub use station::ListStation;

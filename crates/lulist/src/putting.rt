@@ -3,33 +3,33 @@
 ghost use Rattle.std.specs.Prelude.{◌≡◌, ◌<◌, true, ◌+◌, ℕ, length, Some, slice_get, slice_set};
 ghost use Rattle.lulist.specs.declared.ends.Outlet.{Outlet as AnyOutlet};
 ghost use Rattle.lulink.specs.Views.{IsNextToPut};
-ghost use Rattle.lulist.specs.Tries.{IfGoes};
+ghost use Rattle.luworld.specs.Turns.{IfGoes};
 ghost use Rattle.lulist.specs.Steps.{HasGoneAt, HasGoneFrom};
 ghost use Rattle.lulist.specs.Lists.{IsListing, IsSameRun};
 
 use crate::ends::{Outlet, put_one};
 use crate::site::{ListSite, datum_of};
-use crate::tried::Tried;
 use luflow::{Body, Msg};
+use luworld::Turn;
 
 /// Puts the next message of a sending end, if there is room; then it has put those of all instants before the next one.
 #[inline(always)]
-fn put_to(outlet: &mut Outlet, msg: Msg, next: u32, number: u32) -> Tried
+fn put_to(outlet: &mut Outlet, msg: Msg, next: u32, number: u32) -> Turn
     requires next { IsNextToPut outlet.old.tx msg }
     requires number { number ≡ outlet.old.number + 1 }
     ensures { HasGoneFrom next result msg outlet.old outlet.new }
 {
-    let tried = put_one(&mut outlet.tx, msg);
-    if let Tried::Done = tried {
+    let turn = put_one(&mut outlet.tx, msg);
+    if let Turn::Moved = turn {
         outlet.done = next;
         outlet.number = number;
     }
-    tried
+    turn
 }
 
 /// The same of sending end e.
 #[inline(always)]
-fn put_at(outlets: &mut Vec<Outlet>, e: usize, msg: Msg, next: u32, number: u32) -> Tried
+fn put_at(outlets: &mut Vec<Outlet>, e: usize, msg: Msg, next: u32, number: u32) -> Turn
     requires within { e < length outlets.old.items }
     requires next { (x : AnyOutlet) → slice_get outlets.old.items e ≡ Some x
         → IsNextToPut x.tx msg }
@@ -65,74 +65,74 @@ fn close_at(outlets: &mut Vec<Outlet>, e: usize)
 impl ListSite {
     /// Puts the message of a sending end, if its flow is present, which has been worked out. It is over where the receiver has left a full
     /// link.
-    pub fn put_step(&mut self, e: usize) -> Tried
+    pub fn put_step(&mut self, e: usize) -> Turn
         requires going { IsListing self.old }
-        requires early { self.old.t < self.old.job.value.inputs.instants }
+        requires early { self.old.t < self.old.inputs.job.inputs.instants }
         ensures going { IfGoes result (IsListing self.new) }
         ensures same { IsSameRun self.old self.new }
     {
         if self.outlets.len() <= e {
-            return Tried::Over;
+            return Turn::Over;
         }
         let outlet = &self.outlets[e];
         let row = outlet.row;
         let no = outlet.number;
         if outlet.closed || outlet.done != self.t || row >= self.at || row >= self.shown.len() {
-            return Tried::Over;
+            return Turn::Over;
         }
         let next = self.t + 1;
         let Some(datum) = datum_of(self.shown[row]) else {
             skip_at(&mut self.outlets, e, next);
             self.out = self.out.saturating_add(1);
-            return Tried::Done;
+            return Turn::Moved;
         };
         let Some(number) = no.checked_add(1) else {
-            return Tried::Over;
+            return Turn::Over;
         };
         let msg = Msg {
             no,
             body: Body::Value(datum),
         };
         match put_at(&mut self.outlets, e, msg, next, number) {
-            Tried::Done => {
+            Turn::Moved => {
                 self.out = self.out.saturating_add(1);
-                Tried::Done
+                Turn::Moved
             }
-            Tried::Blocked => Tried::Blocked,
-            Tried::Over => Tried::Over,
+            Turn::Blocked => Turn::Blocked,
+            Turn::Over => Turn::Over,
         }
     }
 
     /// Puts the close of a sending end behind the last instant.
-    pub fn put_close(&mut self, e: usize) -> Tried
+    pub fn put_close(&mut self, e: usize) -> Turn
         requires going { IsListing self.old }
-        requires late { self.old.t ≡ self.old.job.value.inputs.instants }
+        requires late { self.old.t ≡ self.old.inputs.job.inputs.instants }
         ensures going { IfGoes result (IsListing self.new) }
         ensures same { IsSameRun self.old self.new }
     {
         if self.outlets.len() <= e {
-            return Tried::Over;
+            return Turn::Over;
         }
         let outlet = &self.outlets[e];
         let no = outlet.number;
-        if outlet.closed || outlet.done != self.t || outlet.row >= self.code.places.len() {
-            return Tried::Over;
+        if outlet.closed || outlet.done != self.t || outlet.row >= self.flows.places.len() {
+            return Turn::Over;
         }
         let Some(number) = no.checked_add(1) else {
-            return Tried::Over;
+            return Turn::Over;
         };
         let msg = Msg {
             no,
             body: Body::Close,
         };
         match put_at(&mut self.outlets, e, msg, self.t, number) {
-            Tried::Done => {
+            Turn::Moved => {
                 close_at(&mut self.outlets, e);
                 self.out = self.out.saturating_add(1);
-                Tried::Done
+                Turn::Moved
             }
-            Tried::Blocked => Tried::Blocked,
-            Tried::Over => Tried::Over,
+            Turn::Blocked => Turn::Blocked,
+            Turn::Over => Turn::Over,
         }
     }
 }

@@ -3,20 +3,17 @@
 ghost use Rattle.std.specs.Prelude.{◌≡◌, ◌<◌, length, slice_set};
 ghost use Rattle.lueval_lines.specs.Cells.{held};
 
-use crate::code::ListCode;
 use crate::ends::{Outlet, Source};
+use crate::flows::OrderedFlows;
 use lueval_lines::{Cell, status};
 use luflow::{Datum, Status};
-use luplace::{Job, SiteInputs};
-use std::snapshot::Snapshot;
+use luplace::SiteInputs;
 
 /// A site in the middle of an instant.
 #[derive(Drop)]
 pub struct ListSite {
-    pub job: Snapshot<Job>,
-    pub site: u8,
     pub inputs: SiteInputs,
-    pub code: ListCode,
+    pub flows: OrderedFlows,
     /// What each flow shows at this instant, by number; of those before the one at hand.
     pub shown: Vec<Cell>,
     /// The last values before this instant of those that are kept; absent before the first.

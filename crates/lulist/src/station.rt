@@ -1,24 +1,19 @@
 //! One site that goes through its flows once an instant, over the ends of its links.
 
-ghost use Rattle.std.specs.Prelude.{◌≡◌, ◌+◌, ◌<◌, ◌≤◌, ℕ, [], All, IfOk, IfSome, Some, slice_get};
-ghost use Rattle.std.specs.Arc.{arc_value};
-ghost use Rattle.luworld.specs.Needs.{sites_of};
-ghost use Rattle.lulink.specs.Views.{SenderView, ReceiverView};
-ghost use Rattle.lublock_site.specs.RowStations.{IsRowAt, IsUnusedSender, IsUnusedReceiver};
-ghost use Rattle.lulist.specs.Tries.{is_over};
-ghost use Rattle.lulist.specs.Stations.{AreReportedLogs};
+ghost use Rattle.std.specs.Prelude.{◌≡◌, ◌+◌, ◌≤◌, ℕ, map, IfOk, IfSome, Some, slice_get};
+ghost use Rattle.luworld.specs.Sites.{AreWholeOutputs, IsSiteOfJob, IsSoundAt};
+ghost use Rattle.luworld.specs.Turns.{is_over};
+ghost use Rattle.lulink.specs.Views.{IsUnusedReceiver, IsUnusedSender, ReceiverView, SenderView};
 
+use crate::code::ListCode;
+use crate::outputs::output_rows;
 use crate::site::ListSite;
-use crate::start::start;
-use crate::tried::Tried;
-use lublock_site::report::RowReport;
-use lublock_site::station::Went;
-use luflow::{Flat, Status};
+use luflow::Status;
 use lulink::{EndTally, Rx, Tx};
-use luplace::Job;
+use luplace::SiteInputs;
+use luworld::Turn;
 use std::alloc::{AllocError, Global};
 use std::marker::Model;
-use std::sync::Arc;
 
 /// How many steps a station does before another one has its turn.
 const STEPS: u32 = 4096;
@@ -26,11 +21,10 @@ const STEPS: u32 = 4096;
 /// A site that goes through its flows once an instant, and the ends of its links. A contract sees its job and its site. One that is dropped
 /// leaves its ends.
 pub struct ListStation {
+    alloc: Global,
     inner: ListSite,
-    flat: Arc<Flat>,
-    /// Room for the outputs that the site reports.
-    outputs: Vec<(usize, Vec<Status>)>,
-    sites: u8,
+    /// Room for a row for each main output.
+    outputs: Vec<Vec<Status>>,
     /// Whether it can't go on.
     cut: bool,
 }
@@ -39,102 +33,75 @@ pub struct ListStation {
 impl Drop for ListStation {
     fn drop(self) {
         let Self {
+            alloc: _,
             inner: _,
-            flat: _,
             outputs: _,
-            sites: _,
             cut: _,
         } = self;
     }
 }
 
 impl Model for ListStation {
-    ghost use Rattle.lublock_site.specs.RowStations.{RowStationView};
+    ghost use Rattle.luworld.specs.Sites.{SiteOfJob};
     ghost use Rattle.lulist.specs.Insides.{IsStation};
 
-    ghost Value = { RowStationView };
+    ghost Value = { SiteOfJob };
 
-    ghost view = { λ a. record { job = a.inner.job.value; site = a.inner.site } };
+    ghost view = { λ a. record { job = a.inner.inputs.job; site = a.inner.inputs.site } };
 
     ghost invariant = { IsStation };
 }
 
-/// The outputs of these numbers, with their statuses; none where there is no room.
-fn reported_logs(
-    places: &[usize],
-    noted: &[usize],
-    logs: Vec<Vec<Status>>,
-    outputs: Vec<(usize, Vec<Status>)>,
-) -> Option<Vec<(usize, Vec<Status>)>>
-    requires { outputs.items ≡ [] }
-    ensures { IfSome result (λ xs. AreReportedLogs places.now noted.now logs.items xs.items) }
+fn is_over(turn: Turn) -> bool
+    ensures { result ≡ is_over turn }
 {
-    let mut outputs = outputs;
-    let mut n = 0;
-    for row in logs {
-        let k = *noted.get(n)?;
-        let place = *places.get(k)?;
-        if outputs.push((place, row)).is_err() {
-            return None;
-        }
-        n += 1;
-    }
-    Some(outputs)
-}
-
-fn is_over(tried: Tried) -> bool
-    ensures { result ≡ is_over tried }
-{
-    match tried {
-        Tried::Done | Tried::Blocked => false,
-        Tried::Over => true,
+    match turn {
+        Turn::Moved | Turn::Blocked => false,
+        Turn::Over => true,
     }
 }
 
 impl ListStation {
-    /// A new station from the unused ends of all links of its site. None where a link's end is missing.
+    /// A new station of a site of a run, from the site's part of the plan, its own inputs, and the unused ends of its links. None where
+    /// these aren't the ends that its part of the plan names, in the same order.
     ///
     /// # Errors
     ///
-    /// An error means that memory ran out. The ends are left then.
+    /// An error means that memory ran out. The ends are left then, and where there is no station.
     pub fn new(
         alloc: Global,
-        job: &Job,
-        site: u8,
-        flat: Arc<Flat>,
+        code: ListCode,
+        inputs: SiteInputs,
         txs: Vec<Tx>,
         rxs: Vec<Rx>,
     ) -> Result<Option<ListStation>, AllocError>
-        requires site { site < sites_of job.now.plan }
-        requires flat { arc_value flat ≡ job.now.plan.flat }
+        requires plan { code.plan ≡ inputs.job.plan }
+        requires site { code.site ≡ inputs.site }
         requires senders { (k : ℕ) (t : SenderView) → slice_get txs.items k ≡ Some t
-            → IsUnusedSender job.now t }
+            → IsUnusedSender inputs.job t }
         requires receivers { (k : ℕ) (t : ReceiverView) → slice_get rxs.items k ≡ Some t
-            → IsUnusedReceiver job.now t }
-        ensures { IfOk result (λ o. IfSome o (λ x. x ≡ record { job = job.now; site = site })) }
+            → IsUnusedReceiver inputs.job t }
+        ensures { IfOk result
+            (λ o. IfSome o (λ x. x ≡ record { job = inputs.job; site = inputs.site })) }
     {
-        let sites = job.plan().sites().len() as u8;
-        match start(alloc, job, site, txs, rxs)? {
-            Some(inner) => {
-                let outputs = Vec::with_capacity(alloc, inner.noted.len())?;
-                Ok(Some(ListStation {
-                    inner,
-                    flat,
-                    outputs,
-                    sites,
-                    cut: false,
-                }))
-            }
-            None => Ok(None),
-        }
+        let Some(inner) = code.start(alloc, inputs, txs, rxs)? else {
+            return Ok(None);
+        };
+        let outputs = Vec::with_capacity(alloc, inner.flows.reported.len())?;
+        Ok(Some(ListStation {
+            alloc,
+            inner,
+            outputs,
+            cut: false,
+        }))
     }
 
     /// The number of the site, from 0. Takes no memory.
     pub fn site(&self) -> u8
         ensures site { result ≡ self.now.site }
-        ensures at { IsRowAt self.now }
+        ensures at { IsSiteOfJob self.now }
     {
-        self.inner.site
+        self.inner.inputs.site()
     }
 
     /// The instant at which the site stands, from 0; behind the last one the number of instants. Takes no memory.
@@ -166,63 +133,62 @@ impl ListStation {
     }
 
     /// Does what is next.
-    fn step(&mut self) -> Tried
+    fn step(&mut self) -> Turn
         ensures { self.new ≡ self.old }
     {
         if self.cut {
-            return Tried::Over;
+            return Turn::Over;
         }
-        let tried = self.inner.go();
-        self.cut = is_over(tried);
-        tried
+        let turn = self.inner.go();
+        self.cut = is_over(turn);
+        turn
     }
 
     /// Goes on until a link is empty or full, or the site is over, or it has done many steps. Never waits, and takes no memory.
-    pub fn go(&mut self) -> Went
+    pub fn go(&mut self) -> Turn
         ensures { self.new ≡ self.old }
     {
         let mut moved = false;
         for _step in 0..STEPS {
             if self.cut || self.inner.has_ended() {
-                return Went::Over;
+                return Turn::Over;
             }
             match self.step() {
-                Tried::Done => moved = true,
-                Tried::Blocked => {
+                Turn::Moved => moved = true,
+                Turn::Blocked => {
                     if moved {
-                        return Went::Moved;
+                        return Turn::Moved;
                     }
-                    return Went::Blocked;
+                    return Turn::Blocked;
                 }
-                Tried::Over => return Went::Over,
+                Turn::Over => return Turn::Over,
             }
         }
-        Went::Moved
+        Turn::Moved
     }
 
-    /// What the site reports; none where it hasn't ended. The ends are left.
-    pub fn report(self) -> Option<RowReport>
-        ensures { IfSome result (λ r. (r.job ≡ self.job) × (r.site ≡ self.site)) }
+    /// A row for each main output, in order of declaration: its statuses where the site is its home, moved and not copied, and nothing
+    /// elsewhere. None where the site hasn't ended. The ends are left.
+    pub fn outputs(self) -> Option<Vec<Vec<Status>>>
+        ensures sound { IfSome result (λ _. IsSoundAt self.job self.site) }
+        ensures whole { IfSome result
+            (λ rows. AreWholeOutputs self.job self.site (map (λ row. row.items) rows.items)) }
     {
         if self.cut || !self.inner.has_ended() {
             return None;
         }
         let ListStation {
+            alloc,
             inner,
-            flat,
             outputs,
-            sites,
             cut: _,
         } = self;
         let ListSite {
-            job,
-            site,
-            code,
+            flows,
             noted,
             logs,
             ..
         } = inner;
-        let reported = reported_logs(&code.places, &noted, logs, outputs)?;
-        Some(RowReport::new(job, site, sites, flat, reported))
+        output_rows(alloc, &flows.reported, &noted, logs, outputs)
     }
 }

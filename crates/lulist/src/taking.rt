@@ -2,14 +2,14 @@
 
 ghost use Rattle.std.specs.Prelude.{◌≡◌, ◌<◌, true, ℕ, length, Some, slice_get, slice_set};
 ghost use Rattle.lulist.specs.declared.ends.Source.{Source as AnySource};
-ghost use Rattle.lulist.specs.Tries.{IfGoes};
+ghost use Rattle.luworld.specs.Turns.{IfGoes};
 ghost use Rattle.lulist.specs.Steps.{HasComeAt, HasComeTo};
 ghost use Rattle.lulist.specs.Lists.{IsListing, IsSameRun};
 
 use crate::ends::{Came, Source, take_one};
 use crate::site::{ListSite, show};
-use crate::tried::Tried;
 use lueval_lines::{Cell, cell_of, is_on};
+use luworld::Turn;
 
 /// Takes the next message of a receiving end, if it is there; then it has those of all instants before the next one.
 #[inline(always)]
@@ -56,65 +56,65 @@ fn close_at(sources: &mut Vec<Source>, e: usize)
 
 impl ListSite {
     /// Takes the message of the flow at hand, which a link brings, if it is present. It is over where the link has none any more.
-    pub fn take_row(&mut self) -> Tried
+    pub fn take_row(&mut self) -> Turn
         requires going { IsListing self.old }
-        requires early { self.old.t < self.old.job.value.inputs.instants }
-        requires within { self.old.at < length self.old.code.rows.items }
+        requires early { self.old.t < self.old.inputs.job.inputs.instants }
+        requires within { self.old.at < length self.old.flows.rows.items }
         ensures going { IfGoes result (IsListing self.new) }
         ensures same { IsSameRun self.old self.new }
     {
-        let row = &self.code.rows[self.at];
+        let row = &self.flows.rows[self.at];
         let e = row.source;
         if row.own || self.sources.len() <= e {
-            return Tried::Over;
+            return Turn::Over;
         }
         let source = &self.sources[e];
         if source.row != self.at || source.done != self.t || source.closed {
-            return Tried::Over;
+            return Turn::Over;
         }
         let next = self.t + 1;
         if !is_on(&self.shown, row.line.clock) {
             skip_at(&mut self.sources, e, next);
             show(&mut self.shown, self.at, Cell::Absent);
             self.at += 1;
-            return Tried::Done;
+            return Turn::Moved;
         }
         match take_at(&mut self.sources, e, next) {
             Came::Value(datum) => {
                 show(&mut self.shown, self.at, cell_of(datum));
                 self.at += 1;
-                Tried::Done
+                Turn::Moved
             }
-            Came::Nothing => Tried::Blocked,
-            Came::Close | Came::Lost => Tried::Over,
+            Came::Nothing => Turn::Blocked,
+            Came::Close | Came::Lost => Turn::Over,
         }
     }
 
     /// Takes the close of the flow at hand behind the last instant, if a link brings the flow.
-    pub fn close_row(&mut self) -> Tried
+    pub fn close_row(&mut self) -> Turn
         requires going { IsListing self.old }
-        requires late { self.old.t ≡ self.old.job.value.inputs.instants }
-        requires within { self.old.at < length self.old.code.rows.items }
+        requires late { self.old.t ≡ self.old.inputs.job.inputs.instants }
+        requires within { self.old.at < length self.old.flows.rows.items }
         ensures going { IfGoes result (IsListing self.new) }
         ensures same { IsSameRun self.old self.new }
     {
-        let row = &self.code.rows[self.at];
+        let row = &self.flows.rows[self.at];
         let e = row.source;
         if row.own {
             self.at += 1;
-            return Tried::Done;
+            return Turn::Moved;
         }
         if self.sources.len() <= e {
-            return Tried::Over;
+            return Turn::Over;
         }
         match take_at(&mut self.sources, e, self.t) {
             Came::Close => {
                 close_at(&mut self.sources, e);
                 self.at += 1;
-                Tried::Done
+                Turn::Moved
             }
-            Came::Nothing => Tried::Blocked,
-            Came::Value(_) | Came::Lost => Tried::Over,
+            Came::Nothing => Turn::Blocked,
+            Came::Value(_) | Came::Lost => Turn::Over,
         }
     }
 }

@@ -4,16 +4,16 @@ ghost use Rattle.std.specs.Prelude.{◌≡◌, ◌<◌, ◌≤◌, ℕ, true, Al
 ghost use Rattle.lueval_lines.specs.declared.cell.Cell.{Cell as AnyCell};
 ghost use Rattle.lueval_lines.specs.Cells.{newest};
 ghost use Rattle.lusite_program.specs.Logs.{log_view};
-ghost use Rattle.lulist.specs.Tries.{IfGoes};
+ghost use Rattle.luworld.specs.Turns.{IfGoes};
 ghost use Rattle.lulist.specs.Turns.{AreAged, AreNotedTo};
 ghost use Rattle.lulist.specs.Lists.{IsListing, IsSameRun};
 
 use crate::site::ListSite;
-use crate::tried::Tried;
 use crate::working::work_all;
 use lueval_lines::{Cell, is_absent, status};
 use luflow::Status;
 use lusite_program::note;
+use luworld::Turn;
 
 /// The last value of flow k, one instant later.
 #[inline(always)]
@@ -69,35 +69,35 @@ fn note_all(noted: &[usize], shown: &[Cell], logs: &mut Vec<Vec<Status>>) -> boo
 
 impl ListSite {
     /// Goes on to the next instant. It is over where something is missing.
-    fn end_instant(&mut self) -> Tried
+    fn end_instant(&mut self) -> Turn
         requires going { IsListing self.old }
-        requires early { self.old.t < self.old.job.value.inputs.instants }
-        requires all { length self.old.code.rows.items ≤ self.old.at }
+        requires early { self.old.t < self.old.inputs.job.inputs.instants }
+        requires all { length self.old.flows.rows.items ≤ self.old.at }
         ensures going { IfGoes result (IsListing self.new) }
         ensures same { IsSameRun self.old self.new }
     {
         if !note_all(&self.noted, &self.shown, &mut self.logs) {
-            return Tried::Over;
+            return Turn::Over;
         }
-        age_all(&self.code.kept, &self.shown, &mut self.lasts);
+        age_all(&self.flows.kept, &self.shown, &mut self.lasts);
         self.t += 1;
-        self.at = self.code.fixed;
+        self.at = self.flows.fixed;
         self.out = 0;
-        Tried::Done
+        Turn::Moved
     }
 
     /// Works out flows that are computed here, one behind the other, up to this number.
-    fn work_rows(&mut self, to: usize) -> Tried
+    fn work_rows(&mut self, to: usize) -> Turn
         requires going { IsListing self.old }
-        requires early { self.old.t < self.old.job.value.inputs.instants }
+        requires early { self.old.t < self.old.inputs.job.inputs.instants }
         ensures going { IfGoes result (IsListing self.new) }
         ensures same { IsSameRun self.old self.new }
     {
         let from = self.at;
-        let count = self.code.rows.len();
+        let count = self.flows.rows.len();
         let end = if to < count { to } else { count };
         let come = work_all(
-            &self.code,
+            &self.flows,
             &self.inputs,
             self.t,
             &self.lasts,
@@ -106,18 +106,18 @@ impl ListSite {
             end,
         );
         self.at = come;
-        if come < end { Tried::Over } else { Tried::Done }
+        if come < end { Turn::Over } else { Turn::Moved }
     }
 
     /// The flow at hand, and those that can be worked out at once with it.
-    fn rows_step(&mut self) -> Tried
+    fn rows_step(&mut self) -> Turn
         requires going { IsListing self.old }
-        requires early { self.old.t < self.old.job.value.inputs.instants }
-        requires within { self.old.at < length self.old.code.rows.items }
+        requires early { self.old.t < self.old.inputs.job.inputs.instants }
+        requires within { self.old.at < length self.old.flows.rows.items }
         ensures going { IfGoes result (IsListing self.new) }
         ensures same { IsSameRun self.old self.new }
     {
-        let row = &self.code.rows[self.at];
+        let row = &self.flows.rows[self.at];
         let run = row.run;
         if row.own {
             return self.work_rows(run);
@@ -133,49 +133,49 @@ impl ListSite {
     }
 
     /// Does what is next at an instant of the table.
-    fn early_step(&mut self) -> Tried
+    fn early_step(&mut self) -> Turn
         requires going { IsListing self.old }
-        requires early { self.old.t < self.old.job.value.inputs.instants }
+        requires early { self.old.t < self.old.inputs.job.inputs.instants }
         ensures going { IfGoes result (IsListing self.new) }
         ensures same { IsSameRun self.old self.new }
     {
         if let Some(e) = self.next_out() {
             return self.put_step(e);
         }
-        if self.at < self.code.rows.len() {
+        if self.at < self.flows.rows.len() {
             return self.rows_step();
         }
         self.end_instant()
     }
 
     /// Does what is next behind the last instant.
-    fn late_step(&mut self) -> Tried
+    fn late_step(&mut self) -> Turn
         requires going { IsListing self.old }
-        requires late { self.old.t ≡ self.old.job.value.inputs.instants }
+        requires late { self.old.t ≡ self.old.inputs.job.inputs.instants }
         ensures going { IfGoes result (IsListing self.new) }
         ensures same { IsSameRun self.old self.new }
     {
         if let Some(e) = self.next_out() {
             return self.put_close(e);
         }
-        if self.at < self.code.rows.len() {
+        if self.at < self.flows.rows.len() {
             return self.close_row();
         }
-        Tried::Over
+        Turn::Over
     }
 
     /// Whether the site has ended: all instants lie behind, and all closes were passed.
     pub fn has_ended(&self) -> bool
         requires { IsListing self.now }
-        ensures { result ≡ true → self.now.t ≡ self.now.job.value.inputs.instants }
+        ensures { result ≡ true → self.now.t ≡ self.now.inputs.job.inputs.instants }
     {
         self.t == self.inputs.instants()
-            && self.code.rows.len() <= self.at
+            && self.flows.rows.len() <= self.at
             && self.queue.len() <= self.out
     }
 
     /// Does what is next. Where it is over the site can't go on.
-    pub fn go(&mut self) -> Tried
+    pub fn go(&mut self) -> Turn
         requires { IsListing self.old }
         ensures going { IfGoes result (IsListing self.new) }
         ensures same { IsSameRun self.old self.new }

@@ -34,7 +34,7 @@ use Rattle.luplace_report.specs.Names.{site_name, clock_of, clock_text}
 use Rattle.luplace_report.specs.Cause.{cause_of}
 use Rattle.luplace_report.specs.Aligned.{aligned}
 use Rattle.luplace_report.specs.Cycles.{AreFed, cycle_rows}
-use Rattle.luplace_report.specs.Way.{way_cells}
+use Rattle.luplace_report.specs.Way.{crew_rows, way_cells}
 use Rattle.luways.specs.declared.way.Way.{Way}
 use Rattle.luways.specs.Ways.{IsWayOf}
 
@@ -124,9 +124,10 @@ cause_rows plan = cause_head ∷ map (λ l. cells_of (cause_cells plan l) (slice
 
 -- RUNS
 
--- in which way a run goes, and the cycles of sites
+-- in which way a run goes, whether one worker is likely to be quickest, and the cycles of sites
 abbrev pub run_rows : PlanView → Way → List (List Bool) → List (List (List ℕ))
-run_rows plan way fed = way_cells plan.flat way ∷ cycle_rows plan.names (sites_of plan) fed
+run_rows plan way fed =
+    way_cells plan.flat way ∷ (crew_rows plan way ++ cycle_rows plan.names (sites_of plan) fed)
 
 -- the tables of why links are there, and of runs
 abbrev pub rest_text : PlanView → Way → List (List Bool) → List ℕ

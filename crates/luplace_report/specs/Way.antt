@@ -3,11 +3,14 @@
 --   run  by rows
 --   run  instant by instant: a cycle of a, b is parted over sites
 --   run  instant by instant: x, y may have no value at first, and are sent
-use Rattle.std.specs.Prelude.{ℕ, List, [], ◌∷◌, ◌++◌, flat_map, codes}
+--   run  by lists; --workers auto takes one worker
+use Rattle.std.specs.Prelude.{ℕ, Bool, List, [], ◌∷◌, ◌++◌, flat_map, codes, nat_lt, if◌then◌else◌}
 use Rattle.luflow.specs.Program.{FlatView}
 use Rattle.luflow.specs.Variables.{variable_name}
+use Rattle.luworld.specs.Needs.{PlanView, sites_of}
 use Rattle.luways.specs.declared.way.Way.{Way}
 use Rattle.luways.specs.declared.way.Way.TheVariants.{Rows, Parted, Nil}
+use Rattle.luways.specs.Crews.{quickest_crew}
 
 -- the names of variables behind another one
 abbrev pub further_names : FlatView → List ℕ → List ℕ
@@ -38,3 +41,13 @@ way_text flat (Nil vs) = nil_text flat vs
 
 abbrev pub way_cells : FlatView → Way → List (List ℕ)
 way_cells flat way = codes "run" ∷ way_text flat way ∷ []
+
+-- a line where a crew of one is likely to be quicker than a thread for each site
+abbrev pub small_rows : PlanView → List (List (List ℕ))
+small_rows plan = if nat_lt (quickest_crew plan) (sites_of plan)
+    then (codes "run" ∷ codes "by lists; --workers auto takes one worker" ∷ []) ∷ [] else []
+
+abbrev pub crew_rows : PlanView → Way → List (List (List ℕ))
+crew_rows plan Rows = []
+crew_rows plan (Parted vs) = small_rows plan
+crew_rows plan (Nil vs) = small_rows plan

@@ -12,7 +12,7 @@ use crate::cause::{Cause, cause_of};
 use crate::cells::{number_cell, pair_of, put_number, put_text};
 use crate::cycles::{fed_of, put_cycles};
 use crate::names::{clock_of, owner_name, put_clock, site_name};
-use crate::way::way_cells;
+use crate::way::{put_crew, way_cells};
 use lubase::{Name, Row};
 use luflow::{Clock, Flat};
 use luplace::{Link, Plan};
@@ -272,7 +272,7 @@ fn put_cause_table(text: &mut String, alloc: Global, plan: &Plan) -> Result<(), 
     put_aligned(text, alloc, rows.as_slice())
 }
 
-/// Adds in which way a run goes, and the cycles of sites.
+/// Adds in which way a run goes, whether one worker is likely to be quickest, and the cycles of sites.
 fn put_run_table(
     text: &mut String,
     alloc: Global,
@@ -284,6 +284,7 @@ fn put_run_table(
 {
     let mut rows = Vec::new(alloc);
     rows.push(way_cells(alloc, plan.flat(), way)?)?;
+    put_crew(&mut rows, alloc, plan, way)?;
     put_cycles(&mut rows, alloc, plan, fed)?;
     put_aligned(text, alloc, rows.as_slice())
 }

@@ -1,13 +1,16 @@
 //! How the way of a plan is reported.
 
-ghost use Rattle.std.specs.Prelude.{◌≡◌, IfOk};
+ghost use Rattle.std.specs.Prelude.{◌≡◌, ◌++◌, nat_lt, IfOk, OnOk};
+ghost use Rattle.luworld.specs.Needs.{sites_of};
+ghost use Rattle.luways.specs.Crews.{quickest_crew};
 ghost use Rattle.luplace_report.specs.Names.{Adds};
-ghost use Rattle.luplace_report.specs.Way.{further_names, variable_list, sent_text, parted_text, nil_text, way_text, way_cells};
+ghost use Rattle.luplace_report.specs.Way.{further_names, variable_list, sent_text, parted_text, nil_text, way_text, way_cells, small_rows, crew_rows};
 
 use crate::cells::text_pair;
 use lubase::{Name, Row};
 use luflow::Flat;
-use luways::Way;
+use luplace::Plan;
+use luways::{Way, quickest_crew};
 use std::alloc::{AllocError, Global};
 
 /// A comma and the name of a variable, for each of these.
@@ -86,4 +89,38 @@ pub fn way_cells(alloc: Global, flat: &Flat, way: &Way) -> Result<Row<Name>, All
     let mut text = String::new(alloc);
     put_text(&mut text, flat, way)?;
     text_pair(alloc, "run", text)
+}
+
+/// Whether so many workers as are quickest by lists are fewer than the sites.
+fn has_small_crew(plan: &Plan) -> bool
+    ensures { result ≡ nat_lt (quickest_crew plan.now) (sites_of plan.now) }
+{
+    usize::from(quickest_crew(plan)) < plan.sites().len()
+}
+
+fn put_small(rows: &mut Vec<Row<Name>>, alloc: Global, plan: &Plan) -> Result<(), AllocError>
+    ensures { OnOk result (rows.new.items ≡ rows.old.items ++ small_rows plan.now) }
+{
+    if has_small_crew(plan) {
+        let text = String::from_str(alloc, "by lists; --workers auto takes one worker")?;
+        rows.push(text_pair(alloc, "run", text)?)?;
+        return Ok(());
+    }
+    Ok(())
+}
+
+/// Adds a row where a crew of one is likely to be quicker than a thread for each site.
+pub fn put_crew(
+    rows: &mut Vec<Row<Name>>,
+    alloc: Global,
+    plan: &Plan,
+    way: &Way,
+) -> Result<(), AllocError>
+    ensures { OnOk result (rows.new.items ≡ rows.old.items ++ crew_rows plan.now way.now) }
+{
+    match way {
+        Way::Rows => Ok(()),
+        Way::Parted(_) => put_small(rows, alloc, plan),
+        Way::Nil(_) => put_small(rows, alloc, plan),
+    }
 }

@@ -8,15 +8,16 @@ use Rattle.std.proofs.lemmas.Bool.{cases_eq, cases_lt, eq-eqb, ne_eqb, lt-ltb}
 use Rattle.std.proofs.lemmas.List.{length-map}
 use Rattle.std.proofs.lemmas.List.Elements.{All-map}
 use Rattle.std.proofs.lemmas.List.FromFn.{get_or-range_with_len, length-range_with_len}
-use Rattle.std.proofs.lemmas.List.Sorted.{length_permutation, All-permutation, sum_by-IsPermutation}
+use Rattle.std.proofs.lemmas.List.Sorted.{length_permutation, All-permutation, IsPermutation-map, sum_by-IsPermutation}
 use Rattle.std.proofs.lemmas.List.Sums.{sum_by-cons, list_all-from_AllPass}
 use Rattle.std.proofs.lemmas.Option.{slice_get-map}
 use Rattle.luworld.specs.Needs.{sites_of}
 use Rattle.luworld.specs.Jobs.{JobView}
 use Rattle.lusite.specs.Sites.{SiteView}
-use Rattle.lurun_reports.specs.Reports.{AreReportsOfJob, AreComplete, is_of, is_one, are_complete}
-use Rattle.lurun_threads.specs.Stations.{StationView, AreOf, AreReportsOf, AreStations, sites_at, place_of, places}
-use Rattle.lurun_reports.proofs.Lists.{all_at, all_from}
+use Rattle.lurun.specs.Reports.{AreReportsOfJob, AreComplete, is_of, is_one, are_complete}
+use Rattle.lurun.specs.declared.engine.Engine.{Engine}
+use Rattle.lurun.specs.Stations.{StationView, ReportView, AllGoBy, AreLeft, AreOf, AreReportsOf, AreStations, IsStationOf, site_at, sites_at, place_of, places}
+use Rattle.lurun.proofs.Lists.{all_at, all_from}
 
 -- ---- one order or another
 
@@ -46,18 +47,25 @@ same_complete n xs ys p =
 
 places_at : (stations : List StationView) → places stations ≡ map place_of (sites_at stations)
 places_at [] = refl
-places_at (x ∷ xs) = ap (λ (ps : List (JobView × ℕ)). place_of x.at ∷ ps) (places_at xs)
+places_at (x ∷ xs) = ap (λ (ps : List (JobView × ℕ)). place_of (site_at x) ∷ ps) (places_at xs)
 
-module _ (job : JobView) (stations : List StationView) (reports : List SiteView) (are : AreReportsOf stations reports) where
+module _ (job : JobView) (stations : List StationView) (reports : List ReportView) (left : List SiteView) (are : AreReportsOf stations reports) (all : AreLeft reports left) where
+  moved : IsPermutation (places stations) (map place_of left)
+  moved = subst (IsPermutation (places stations)) (sym all) (IsPermutation-map (λ (s : StationView). place_of (site_at s)) stations (map (λ (r : ReportView). r.of) reports) are)
+
   -- the reports are of the stations' job
-  pub reported_of : AreOf job stations → AreReportsOfJob job reports
+  pub reported_of : AreOf job stations → AreReportsOfJob job left
   reported_of of =
-      let all = All-permutation (λ (p : JobView × ℕ). p.0 ≡ job) (places stations) (map place_of reports) are (All-map (λ (p : JobView × ℕ). p.0 ≡ job) (λ (s : StationView). place_of s.at) stations of) in
-      all_from (λ (r : SiteView). r.job ≡ job) reports (λ k r e. all_at (λ (p : JobView × ℕ). p.0 ≡ job) (map place_of reports) k (place_of r) all (slice_get-map place_of reports k ∙ ap (option_map place_of) e))
+      let every = All-permutation (λ (p : JobView × ℕ). p.0 ≡ job) (places stations) (map place_of left) moved (All-map (λ (p : JobView × ℕ). p.0 ≡ job) (λ (s : StationView). place_of (site_at s)) stations of) in
+      all_from (λ (r : SiteView). r.job ≡ job) left (λ k r e. all_at (λ (p : JobView × ℕ). p.0 ≡ job) (map place_of left) k (place_of r) every (slice_get-map place_of left k ∙ ap (option_map place_of) e))
 
   -- and of each site there is as many
-  pub complete_as : are_complete (sites_of job.plan) reports ≡ are_complete (sites_of job.plan) (sites_at stations)
-  complete_as = same_complete (sites_of job.plan) (sites_at stations) reports (subst (λ ps. IsPermutation ps (map place_of reports)) (places_at stations) are)
+  pub complete_as : are_complete (sites_of job.plan) left ≡ are_complete (sites_of job.plan) (sites_at stations)
+  complete_as = same_complete (sites_of job.plan) (sites_at stations) left (subst (λ ps. IsPermutation ps (map place_of left)) (places_at stations) moved)
+
+-- stations of one engine have reports of stations of that
+pub engine_of_reports : (engine : Engine) (stations : List StationView) (reports : List ReportView) → AreReportsOf stations reports → AllGoBy engine stations → AllGoBy engine (map (λ (r : ReportView). r.of) reports)
+engine_of_reports engine stations reports are all = All-permutation (λ (s : StationView). s.engine ≡ engine) stations (map (λ (r : ReportView). r.of) reports) are all
 
 -- ---- the sites of a job in order
 
@@ -105,16 +113,19 @@ all_there n xs len some h =
         subst (λ s. is_one xs s ≡ true) (sym (get_or-range_with_len 0 n k d lk)) (eq-eqb (length (filter (is_of (0 + k)) xs)) 1 (one_there (0 + k) 0 xs h (omega arith) (omega (arith, lk, len))))
 
 -- the stations of a job are of it, and one of each site
-pub stations_of : (job : JobView) (stations : List StationView) → AreStations job stations → AreOf job stations
-stations_of job stations are = all_from (λ (s : StationView). s.at.job ≡ job) stations (λ k s e. (are.each k s e).job_is)
+pub stations_of : (job : JobView) (engine : Engine) (stations : List StationView) → AreStations job engine stations → AreOf job stations
+stations_of job engine stations are = all_from (λ (s : StationView). s.job ≡ job) stations (λ k s e. (are.each k s e).job_is)
 
-pub stations_complete : (job : JobView) (stations : List StationView) → AreStations job stations → 0 < sites_of job.plan → AreComplete job (sites_at stations)
-stations_complete job stations are some =
-    all_there (sites_of job.plan) (sites_at stations) (length-map stations (λ (s : StationView). s.at) ∙ are.len) some numbered
+pub stations_by : (job : JobView) (engine : Engine) (stations : List StationView) → AreStations job engine stations → AllGoBy engine stations
+stations_by job engine stations are = all_from (λ (s : StationView). s.engine ≡ engine) stations (λ k s e. (are.each k s e).engine_is)
+
+pub stations_complete : (job : JobView) (engine : Engine) (stations : List StationView) → AreStations job engine stations → 0 < sites_of job.plan → AreComplete job (sites_at stations)
+stations_complete job engine stations are some =
+    all_there (sites_of job.plan) (sites_at stations) (length-map stations site_at ∙ are.len) some numbered
   where
-    found : (o : Option StationView) (k : ℕ) (v : SiteView) → slice_get stations k ≡ o → option_map (λ (s : StationView). s.at) o ≡ Some v → v.site ≡ 0 + k
+    found : (o : Option StationView) (k : ℕ) (v : SiteView) → slice_get stations k ≡ o → option_map site_at o ≡ Some v → v.site ≡ 0 + k
     found None k v at e = absurd cc
-    found (Some s) k v at e = let same : s.at ≡ v = cc in let z = (are.each k s at).site_is in let y = ap (λ (x : SiteView). x.site) same in omega (arith, z, y)
+    found (Some s) k v at e = let same : site_at s ≡ v = cc in let z = (are.each k s at).site_is in let y = ap (λ (x : SiteView). x.site) same in omega (arith, z, y)
 
     numbered : Numbered 0 (sites_at stations)
-    numbered k v e = found (slice_get stations k) k v refl (sym (slice_get-map (λ (s : StationView). s.at) stations k) ∙ e)
+    numbered k v e = found (slice_get stations k) k v refl (sym (slice_get-map site_at stations k) ∙ e)

@@ -1,2 +1,11 @@
+pub mod Ends
+pub mod Items
+pub mod Cuts
+pub mod Stations
+pub mod Inside
+pub mod Crew
+pub mod Shares
+pub mod Reports
 pub mod Answers
 pub mod Making
+pub mod Runs

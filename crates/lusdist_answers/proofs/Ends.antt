@@ -37,7 +37,7 @@ use Rattle.lusdist_call.specs.Left.IsEnded.{answered, refused, undumped, unwritt
 use Rattle.lusdist_call.specs.Left.IsCallEnded.{overwriting, shut, no_memory}
 use Rattle.lusdist_call.specs.Lines.{line_of}
 use Rattle.lusdist_call.specs.Targets.{IsDumpRefused, AskOver}
-use Rattle.lusdist_call.specs.declared.mistake.Mistake.TheVariants.{UnknownCode, NoChart, Backwards, Overwritten, TwoForms, Unobserved, UnclearTurns, NoTurns}
+use Rattle.lusdist_call.specs.declared.mistake.Mistake.TheVariants.{UnknownCode, NoChart, Backwards, Overwritten, TwoForms, Unobserved, UnclearTurns, NoTurns, UnclearWorkers}
 use Rattle.clap.specs.Words.{fault_of}
 use Rattle.lusdist_shell.specs.CommandLine.{lusdist}
 use Rattle.lusdist_shell.specs.Files.{FileFacts}
@@ -254,6 +254,7 @@ module _ (gives : FileFacts) (dumps : DumpFacts) (words : List (List ℕ)) (requ
   dump_ended streams status none (Mistaken TwoForms) h e err = absurd h
   dump_ended streams status none (Mistaken UnclearTurns) h e err = absurd h
   dump_ended streams status none (Mistaken NoTurns) h e err = absurd h
+  dump_ended streams status none (Mistaken UnclearWorkers) h e err = absurd h
 
   -- with status 2 where the dump would take the place of a file, and else with 3
   pub dump_status : (stop : CallError) → IsDumpRefused dumps request stop → ((status_of stop ≡ 2) × AskOver dumps words) ⊎ (status_of stop ≡ 3)
@@ -278,3 +279,4 @@ module _ (gives : FileFacts) (dumps : DumpFacts) (words : List (List ℕ)) (requ
   dump_status (Mistaken TwoForms) h = absurd h
   dump_status (Mistaken UnclearTurns) h = absurd h
   dump_status (Mistaken NoTurns) h = absurd h
+  dump_status (Mistaken UnclearWorkers) h = absurd h

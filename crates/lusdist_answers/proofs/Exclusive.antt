@@ -63,14 +63,14 @@ use Rattle.lusdist_call.specs.Refused.IsReportedOf.{rule, flat}
 use Rattle.lusdist_call.specs.Explained.{code_in, explanation, IsExplainStopped}
 use Rattle.lusdist_call.specs.Explained.IsExplainStopped.{explain_unknown, explain_memory}
 use Rattle.lusdist_call.specs.Files.{IsUnread}
-use Rattle.lusdist_call.specs.Stopped.{IsScheduleRefused, HasNoFlat, StopsAtProgram, StopsAtPlan, StopsAtJob, IsCheckStopped, IsEvalRefused, IsEvalStopped, IsNewStopped, IsPlanStopped, IsReplayStopped, IsReplayRefused, StopsAtTurns, IsRunFault, IsRunStopped, IsRequestStopped, IsUnobserved}
+use Rattle.lusdist_call.specs.Stopped.{IsScheduleRefused, HasNoFlat, StopsAtProgram, StopsAtPlan, StopsAtJob, IsCheckStopped, IsEvalRefused, IsEvalStopped, IsNewStopped, IsPlanStopped, IsReplayStopped, IsReplayRefused, StopsAtTurns, IsRunFault, IsRunRefused, IsRunStopped, IsRequestStopped, IsUnobserved}
 use Rattle.lusdist_call.specs.Violations.{unobserved}
 use Rattle.clap.specs.Walk.{texts}
 use Rattle.lusdist_call.specs.Stopped.HasNoFlat.{unspelled, unruled}
 use Rattle.lusdist_call.specs.Stopped.StopsAtProgram.{program_unread, program_refused}
 use Rattle.lusdist_call.specs.Stopped.StopsAtPlan.{no_program, place_unread, place_refused}
 use Rattle.lusdist_call.specs.Stopped.IsCheckStopped.{check_program, check_memory}
-use Rattle.lusdist_call.specs.Mistakes.{mistake_in, replay_mistake}
+use Rattle.lusdist_call.specs.Mistakes.{mistake_in, replay_mistake, run_mistake}
 use Rattle.lusdist_call.specs.Stopped.IsEvalRefused.{eval_mistaken, eval_stopped}
 use Rattle.lusdist_call.specs.Stopped.IsEvalStopped.{eval_program, eval_unread, eval_table, eval_fault, eval_unobserved, eval_memory}
 use Rattle.lusdist_call.specs.Stopped.IsNewStopped.{new_program, new_memory}
@@ -78,6 +78,7 @@ use Rattle.lusdist_call.specs.Stopped.IsPlanStopped.{plan_files, plan_memory}
 use Rattle.lusdist_call.specs.Stopped.StopsAtJob.{no_plan, table_unread, table_refused}
 use Rattle.lusdist_call.specs.Stopped.IsReplayStopped.{replay_job, replay_turns, replay_unobserved, replay_memory}
 use Rattle.lusdist_call.specs.Stopped.IsReplayRefused.{replay_mistaken, replay_stopped}
+use Rattle.lusdist_call.specs.Stopped.IsRunRefused.{run_mistaken, run_stopped}
 use Rattle.lusdist_call.specs.Stopped.StopsAtSchedule.{no_schedule, bad_schedule}
 use Rattle.lusdist_call.specs.Stopped.IsRunStopped.{run_job, run_fault, run_lost, run_thread, run_unobserved, run_memory}
 use Rattle.lusdist_call.specs.Exact.{HasOneText, SaysNothing}
@@ -417,6 +418,10 @@ module _ (gives : FileFacts) (settled : HasOneText gives) where
         never_unobserved (texts request.always.now) is.job.plan.flat job.plan.flat stop (jobs_one request.program.now request.place.now request.table.now request.main.now is.job job is.asked_for asked).0 is.observed un
     run_outcome (run_memory e) = memory_is stop OutOfMemory e tt
 
+    asked_outcome : IsRunRefused gives request stop → SaysNothing stop
+    asked_outcome (run_mistaken mistake found e) = absurd (none_some (run_mistake request) mistake is.meant found)
+    asked_outcome (run_stopped clear at) = run_outcome at
+
   explain_outcome : (code : Option (List ℕ)) (text : List ℕ) (stop : CallError) → explanation code ≡ Some text → IsExplainStopped code stop → SaysNothing stop
   explain_outcome code text stop answer (explain_memory e) = memory_is stop OutOfMemory e tt
   explain_outcome code text stop answer (explain_unknown name is none e) = absurd (none_some (explanation code) text none answer)
@@ -427,7 +432,7 @@ module _ (gives : FileFacts) (settled : HasOneText gives) where
   one_outcome_of (New request) text notes violated dump stop answer stopped = new_outcome request text stop answer.0 stopped
   one_outcome_of (Plan request) text notes violated dump stop answer stopped = plan_outcome request text notes stop answer.0 stopped
   one_outcome_of (Replay request) text notes violated dump stop answer stopped = mistaken_outcome request text notes violated dump stop answer stopped
-  one_outcome_of (AsksRun request) text notes violated dump stop answer stopped = run_outcome request text notes dump stop answer.0 stopped
+  one_outcome_of (AsksRun request) text notes violated dump stop answer stopped = asked_outcome request text notes dump stop answer.0 stopped
   one_outcome_of (Explain request) text notes violated dump stop answer stopped = explain_outcome (code_in request) text stop answer.0 stopped
 
 pub one_outcome : (gives : FileFacts) → HasOneText gives → (request : Request) (text notes : List ℕ) (violated : Bool) (dump : Option (List ℕ)) (stop : CallError) → IsAnswer gives request text notes violated dump → IsRequestStopped gives request stop → SaysNothing stop

@@ -68,13 +68,13 @@ use Rattle.lusdist_call.specs.Evaluated.{IsFaultOf, IsFaultReported}
 use Rattle.lusdist_call.specs.Refused.{IsReportedOf, IsProgramRefused, IsPlaceRefused, IsTableRefused}
 use Rattle.lusdist_call.specs.Refused.IsReportedOf.{rule, flat}
 use Rattle.lusdist_call.specs.Files.{IsUnread}
-use Rattle.lusdist_call.specs.Stopped.{IsScheduleRefused, HasNoFlat, StopsAtProgram, StopsAtPlan, StopsAtJob, IsEvalRefused, IsEvalStopped, IsReplayStopped, IsReplayRefused, StopsAtTurns, IsRunStopped, IsRequestStopped, IsUnobserved}
+use Rattle.lusdist_call.specs.Stopped.{IsScheduleRefused, HasNoFlat, StopsAtProgram, StopsAtPlan, StopsAtJob, IsEvalRefused, IsEvalStopped, IsReplayStopped, IsReplayRefused, StopsAtTurns, IsRunRefused, IsRunStopped, IsRequestStopped, IsUnobserved}
 use Rattle.lusdist_call.specs.Stopped.HasNoFlat.{unspelled, unruled}
 use Rattle.lusdist_call.specs.Stopped.StopsAtProgram.{program_unread, program_refused}
 use Rattle.lusdist_call.specs.Stopped.StopsAtPlan.{no_program, place_unread, place_refused}
 use Rattle.lusdist_call.specs.Stopped.IsCheckStopped.{check_program, check_memory}
 use Rattle.lusdist_call.specs.declared.mistake.Mistake.{Mistake}
-use Rattle.lusdist_call.specs.Mistakes.{mistake_in, replay_mistake}
+use Rattle.lusdist_call.specs.Mistakes.{mistake_in, replay_mistake, run_mistake}
 use Rattle.lusdist_call.specs.Stopped.IsEvalRefused.{eval_mistaken, eval_stopped}
 use Rattle.lusdist_call.specs.Stopped.IsEvalStopped.{eval_program, eval_unread, eval_table, eval_fault, eval_unobserved, eval_memory}
 use Rattle.lusdist_call.specs.Stopped.IsNewStopped.{new_program, new_memory}
@@ -82,6 +82,7 @@ use Rattle.lusdist_call.specs.Stopped.IsPlanStopped.{plan_files, plan_memory}
 use Rattle.lusdist_call.specs.Stopped.StopsAtJob.{no_plan, table_unread, table_refused}
 use Rattle.lusdist_call.specs.Stopped.IsReplayStopped.{replay_job, replay_turns, replay_unobserved, replay_memory}
 use Rattle.lusdist_call.specs.Stopped.IsReplayRefused.{replay_mistaken, replay_stopped}
+use Rattle.lusdist_call.specs.Stopped.IsRunRefused.{run_mistaken, run_stopped}
 use Rattle.lusdist_call.specs.Stopped.StopsAtSchedule.{no_schedule, bad_schedule}
 use Rattle.lusdist_call.specs.Stopped.IsRunStopped.{run_job, run_fault, run_lost, run_thread, run_unobserved, run_memory}
 use Rattle.lusdist_call.specs.Exact.{HasOneText, SaysNothing, IsFaultOfRun}
@@ -544,6 +545,13 @@ module _ (gives : FileFacts) (settled : HasOneText gives) where
     run_stop a b (run_unobserved job asked un) (run_unobserved other also un_too) na nb nf =
         one_unobserved (texts request.always.now) job.plan.flat other.plan.flat a b (jobs_one gives settled request.program.now request.place.now request.table.now request.main.now job other asked also).0 un un_too
 
+    asked_stop : (a b : CallError) → IsRunRefused gives request a → IsRunRefused gives request b → (¬ SaysNothing a) → (¬ SaysNothing b) → (¬ IsFaultOfRun (AsksRun request) a) → a ≡ b
+    asked_stop a b (run_mistaken mistake found e) (run_mistaken other also d) na nb nf =
+        e ∙ ap (λ (m : Mistake). Mistaken m) (same_Some mistake other (sym found ∙ also)) ∙ sym d
+    asked_stop a b (run_mistaken mistake found e) (run_stopped clear y) na nb nf = absurd (none_some (run_mistake request) mistake clear found)
+    asked_stop a b (run_stopped clear x) (run_mistaken mistake found e) na nb nf = absurd (none_some (run_mistake request) mistake clear found)
+    asked_stop a b (run_stopped clear x) (run_stopped same y) na nb nf = run_stop a b x y na nb nf
+
   explain_stop : (code : Option (List ℕ)) (a b : CallError) → IsExplainStopped code a → IsExplainStopped code b → (¬ SaysNothing a) → (¬ SaysNothing b) → a ≡ b
   explain_stop code a b (explain_memory e) y na nb = absurd (na (memory_is a OutOfMemory e tt))
   explain_stop code a b (explain_unknown name is none e) (explain_memory m) na nb = absurd (nb (memory_is b OutOfMemory m tt))
@@ -569,5 +577,5 @@ module _ (gives : FileFacts) (settled : HasOneText gives) where
   one_refusal_of (Plan request) a b (plan_memory e) y na nb nf = absurd (na (memory_is a OutOfMemory e tt))
   one_refusal_of (Plan request) a b (plan_files x) (plan_memory e) na nb nf = absurd (nb (memory_is b OutOfMemory e tt))
   one_refusal_of (Replay request) a b x y na nb nf = mistaken_stop request a b x y na nb
-  one_refusal_of (AsksRun request) a b x y na nb nf = run_stop request a b x y na nb nf
+  one_refusal_of (AsksRun request) a b x y na nb nf = asked_stop request a b x y na nb nf
   one_refusal_of (Explain request) a b x y na nb nf = explain_stop (code_in request) a b x y na nb

@@ -27,12 +27,12 @@ use Rattle.clap.specs.Walk.{texts}
 use Rattle.lusdist_call.specs.Refused.{IsReportedOf, IsProgramRefused, IsPlaceRefused, IsTableRefused}
 use Rattle.lusdist_call.specs.Refused.IsReportedOf.{rule, flat}
 use Rattle.lusdist_call.specs.Files.{IsUnread}
-use Rattle.lusdist_call.specs.Stopped.{IsScheduleRefused, HasNoFlat, StopsAtProgram, StopsAtPlan, StopsAtJob, IsEvalRefused, IsEvalStopped, IsReplayStopped, IsReplayRefused, StopsAtTurns, IsRunFault, IsRunStopped, IsRequestStopped, IsUnobserved}
+use Rattle.lusdist_call.specs.Stopped.{IsScheduleRefused, HasNoFlat, StopsAtProgram, StopsAtPlan, StopsAtJob, IsEvalRefused, IsEvalStopped, IsReplayStopped, IsReplayRefused, StopsAtTurns, IsRunFault, IsRunRefused, IsRunStopped, IsRequestStopped, IsUnobserved}
 use Rattle.lusdist_call.specs.Stopped.HasNoFlat.{unspelled, unruled}
 use Rattle.lusdist_call.specs.Stopped.StopsAtProgram.{program_unread, program_refused}
 use Rattle.lusdist_call.specs.Stopped.StopsAtPlan.{no_program, place_unread, place_refused}
 use Rattle.lusdist_call.specs.Stopped.IsCheckStopped.{check_program, check_memory}
-use Rattle.lusdist_call.specs.Mistakes.{mistake_in, replay_mistake}
+use Rattle.lusdist_call.specs.Mistakes.{mistake_in, replay_mistake, run_mistake}
 use Rattle.lusdist_call.specs.Stopped.IsEvalRefused.{eval_mistaken, eval_stopped}
 use Rattle.lusdist_call.specs.Stopped.IsEvalStopped.{eval_program, eval_unread, eval_table, eval_fault, eval_unobserved, eval_memory}
 use Rattle.lusdist_call.specs.Stopped.IsNewStopped.{new_program, new_memory}
@@ -40,6 +40,7 @@ use Rattle.lusdist_call.specs.Stopped.IsPlanStopped.{plan_files, plan_memory}
 use Rattle.lusdist_call.specs.Stopped.StopsAtJob.{no_plan, table_unread, table_refused}
 use Rattle.lusdist_call.specs.Stopped.IsReplayStopped.{replay_job, replay_turns, replay_unobserved, replay_memory}
 use Rattle.lusdist_call.specs.Stopped.IsReplayRefused.{replay_mistaken, replay_stopped}
+use Rattle.lusdist_call.specs.Stopped.IsRunRefused.{run_mistaken, run_stopped}
 use Rattle.lusdist_call.specs.Stopped.StopsAtSchedule.{no_schedule, bad_schedule}
 use Rattle.lusdist_call.specs.Stopped.IsRunStopped.{run_job, run_fault, run_lost, run_thread, run_unobserved, run_memory}
 use Rattle.lusdist_call.specs.Exact.{HasOneText, SaysNothing}
@@ -398,6 +399,12 @@ module _ (gives : FileFacts) (settled : HasOneText gives) where
     run_status a b (run_unobserved job asked un) (run_fault name t k e fault) na nb = fault_observed name t k fault job a asked un
     run_status a b (run_unobserved job asked un) (run_unobserved other also un_too) na nb = both_two job.plan.flat other.plan.flat (texts request.always.now) a b un un_too
 
+    asked_status : (a b : CallError) → IsRunRefused gives request a → IsRunRefused gives request b → (¬ SaysNothing a) → (¬ SaysNothing b) → status_of a ≡ status_of b
+    asked_status a b (run_mistaken mistake found e) (run_mistaken other also d) na nb = ap status_of e ∙ sym (ap status_of d)
+    asked_status a b (run_mistaken mistake found e) (run_stopped clear y) na nb = absurd (none_some (run_mistake request) mistake clear found)
+    asked_status a b (run_stopped clear x) (run_mistaken mistake found e) na nb = absurd (none_some (run_mistake request) mistake clear found)
+    asked_status a b (run_stopped clear x) (run_stopped same y) na nb = run_status a b x y na nb
+
   explain_status : (code : Option (List ℕ)) (a b : CallError) → IsExplainStopped code a → IsExplainStopped code b → (¬ SaysNothing a) → (¬ SaysNothing b) → status_of a ≡ status_of b
   explain_status code a b (explain_memory e) y na nb = absurd (na (memory_is a OutOfMemory e tt))
   explain_status code a b (explain_unknown name is none e) (explain_memory m) na nb = absurd (nb (memory_is b OutOfMemory m tt))
@@ -421,5 +428,5 @@ module _ (gives : FileFacts) (settled : HasOneText gives) where
   one_status_of (Plan request) a b (plan_memory e) y na nb = absurd (na (memory_is a OutOfMemory e tt))
   one_status_of (Plan request) a b (plan_files x) (plan_memory e) na nb = absurd (nb (memory_is b OutOfMemory e tt))
   one_status_of (Replay request) a b x y na nb = mistaken_status request a b x y na nb
-  one_status_of (AsksRun request) a b x y na nb = run_status request a b x y na nb
+  one_status_of (AsksRun request) a b x y na nb = asked_status request a b x y na nb
   one_status_of (Explain request) a b x y na nb = explain_status (code_in request) a b x y na nb

@@ -22,11 +22,7 @@ use Rattle.std.proofs.lemmas.Option.{slice_get_within}
 use Rattle.lusource.specs.Faults.{IsSourceFault}
 use Rattle.lusite.specs.declared.next.Fault.{Fault as SiteFault}
 use Rattle.lusite.specs.Machine.{IsFaultAt}
-use Rattle.lurun_reports.specs.declared.error.RunError.{RunError}
-use Rattle.lurun_reports.specs.declared.error.RunError.TheVariants as run
-use Rattle.lurun.specs.Answers.{IsRunAnswer}
-use Rattle.lurun_reports.specs.Reports.{AreComplete, AreOutputsOf as AreRunOutputs, HasOutput}
-use Rattle.lurun_threads.specs.Stations.{StationView, sites_at}
+use Rattle.lurun.specs.Reports.{AreOutputsOf as AreRunOutputs}
 use Rattle.lusdist_shell.specs.declared.request.RunRequest.{RunRequest}
 use Rattle.lusdist_call.specs.declared.call_error.CallError.{CallError}
 use Rattle.lusdist_call.specs.declared.call_error.CallError.TheVariants.{CannotRead, CannotWrite, NotAscii, Syntax, Rules, Flat, Place, Table, Schedule, Fault, LinkLost, NoThread, OutOfMemory, Mistaken}
@@ -41,7 +37,8 @@ use Rattle.lusdist_call.specs.Violations.{output_flows, unobserved, violations}
 use Rattle.clap.specs.Walk.{texts}
 use Rattle.lusdist_call.specs.Asked.{IsJobFor}
 use Rattle.lusdist_call.specs.Evaluated.{AreOutputsOf}
-use Rattle.lusdist_call.specs.Ran.{IsRunError, IsStopOfRun, IsRunReply}
+use Rattle.lusdist_call.specs.Ran.{IsStopOfRun, IsRunReply}
+use Rattle.lusdist_call.specs.Mistakes.{run_mistake}
 use Rattle.lusdist_call.specs.Stopped.{IsRunFault, IsRunStopped}
 use Rattle.lusdist_call.specs.Stopped.IsRunStopped.{run_fault, run_lost, run_thread, run_memory}
 use Rattle.lusdist_answers.proofs.TrueReports.{owner_of}
@@ -62,22 +59,6 @@ job_found gives path place_path table_path main plan table found given (Ok job) 
       job_is = job_is found.program found.place table main plan job found.flat found.plan_of same text short utf8 fits run;
     }
 job_found gives path place_path table_path main plan table found given (Err e) same text short utf8 fits run = tt
-
--- what all stations of a job answer
-pub answer_is : (job : JobView) (stations : List StationView) (result : Result (List OutputColumn) RunError) → AreComplete job (sites_at stations) → HasOutput job → IsRunAnswer job stations result → MatchResult result (AreRunOutputs job) (IsRunError job)
-answer_is job stations (Ok outputs) complete some h = h.1
-answer_is job stations (Err (run.Fault variable instant kind)) complete some h = h.1
-answer_is job stations (Err run.OutOfMemory) complete some h = tt
-answer_is job stations (Err run.LinkLost) complete some h = tt
-answer_is job stations (Err run.NoThread) complete some h = tt
-answer_is job stations (Err run.WrongReports) complete some (inl never) = cc
-answer_is job stations (Err run.WrongReports) complete some (inr never) = never.1 some
-
--- what a run by rows answers
-pub rows_answer_is : {A : Type 0} (P : A → Type 0) (job : JobView) (result : Result A RunError) → IfOk result P → IfErr result (λ error. (error ≡ run.OutOfMemory) ⊎ (error ≡ run.NoThread)) → MatchResult result P (IsRunError job)
-rows_answer_is P job (Ok x) h none = h
-rows_answer_is P job (Err error) h (inl is) = subst (λ (e : RunError). IsRunError job e) (sym is) tt
-rows_answer_is P job (Err error) h (inr is) = subst (λ (e : RunError). IsRunError job e) (sym is) tt
 
 -- the variable of a fault at which a site stopped is one of the program's
 pub owner_inside : (job : JobView) (site variable instant : ℕ) (kind : FaultKind) → IsFlat job.plan.flat → IsFaultAt job site (record { variable = variable; instant = instant; kind = kind }) → variable < length job.plan.flat.variables
@@ -114,9 +95,10 @@ module _ (gives : FileFacts) (request : RunRequest) (job : JobView) (asked : IsJ
         no_source_fault = no_source_fault_of asked.job_is.flat.tree request.main.now job source fine;
       }
 
-  pub is_ran : (reply : Reply) → IsRunReply job request reply → IsReplyTo gives (AsksRun request) reply
-  is_ran reply found =
+  pub is_ran : run_mistake request ≡ None → (reply : Reply) → IsRunReply job request reply → IsReplyTo gives (AsksRun request) reply
+  is_ran meant reply found =
       let ran : IsRan gives request (string_bytes reply.text) (string_bytes reply.notes) (option_map string_bytes reply.dump) = record {
+        meant = meant;
         job = job;
         asked_for = asked;
         outputs = found.outputs;

@@ -5,15 +5,15 @@ ghost use Rattle.lutree.specs.Places.{places_view};
 ghost use Rattle.lutree.specs.Tree.{program_view};
 ghost use Rattle.lusyn.specs.Places.{ArePlacesOf};
 ghost use Rattle.lusyn.specs.Texts.{SpellsText};
-ghost use Rattle.lusdist_shell.specs.Request.{AreFew};
+ghost use Rattle.lurun.specs.Runs.{AreSome};
 ghost use Rattle.lusdist_shell.specs.declared.request.Request.{Request};
 ghost use Rattle.lusdist_call.specs.Answers.{AreCheckNotes, IsReplyTo, plan_notes};
 ghost use Rattle.luflow.specs.Sound.{IsFit};
 ghost use Rattle.luflow.specs.Variables.{outputs_of};
 ghost use Rattle.lusdist_call.specs.Evaluated.{IsDumpedTo, IsNoFault, IsPosedWith};
 ghost use Rattle.lusdist_call.specs.Shown.{IsListFor};
-ghost use Rattle.lusdist_call.specs.Stopped.{IsCheckStopped, IsEvalStopped, IsNewStopped, IsPlanStopped, IsRefusalOf, IsRunStopped};
-ghost use Rattle.lusdist_call.specs.Mistakes.{mistake_in};
+ghost use Rattle.lusdist_call.specs.Stopped.{IsCheckStopped, IsEvalStopped, IsNewStopped, IsPlanStopped, IsRefusalOf, IsRunRefused, IsRunStopped};
+ghost use Rattle.lusdist_call.specs.Mistakes.{mistake_in, run_mistake};
 ghost use Rattle.lusdist_call.specs.Violations.{unobserved};
 ghost use Rattle.clap.specs.Walk.{texts};
 ghost use Rattle.lusdist_call.specs.declared.call_error.CallError.{CallError};
@@ -30,7 +30,7 @@ use luexplain::of_warnings;
 use luflow::{Flat, Inputs};
 use luplace::Plan;
 use luplace_report::report_idle;
-use lusdist_call::{CallError, Refusal, Reply, mistake_in, observe, read};
+use lusdist_call::{CallError, Mistake, Refusal, Reply, mistake_in, observe, read, workers_in};
 use lusdist_shell::{
     CheckRequest, EvalRequest, Files, NewRequest, PlanRequest, Progress, RunRequest,
 };
@@ -176,14 +176,16 @@ pub fn plan_answer<F: Files>(
 
 /// What a run gives: the table of the outputs of the program, which its sites gave together, their dump, and what is told of those that
 /// are observed.
-pub fn run_answer<R: Threads + Wait + Clock + Sync, F: Files, P: Progress>(
+fn ran<R: Threads + Wait + Clock + Sync, F: Files, P: Progress>(
     rt: &R,
     alloc: Global,
     request: RunRequest<'_>,
     files: &F,
     progress: &P,
+    workers: Workers,
 ) -> Result<Reply, CallError>
-    requires { AreFew request.workers }
+    requires meant { run_mistake request ≡ None }
+    requires workers { AreSome workers }
     ensures reply { IfOk result (IsReplyTo (F.gives files.now) (Request.Run request.entry)) }
     ensures stopped { IfErr result (IsRunStopped (F.gives files.now) request.entry) }
 {
@@ -196,5 +198,22 @@ pub fn run_answer<R: Threads + Wait + Clock + Sync, F: Files, P: Progress>(
         request.main,
     )?;
     observe_job(alloc, &job, request.always)?;
-    run_table(rt, alloc, request, progress, &job)
+    run_table(rt, alloc, request, progress, &job, workers)
+}
+
+/// What a run gives, where what it is asked for can be meant.
+pub fn run_answer<R: Threads + Wait + Clock + Sync, F: Files, P: Progress>(
+    rt: &R,
+    alloc: Global,
+    request: RunRequest<'_>,
+    files: &F,
+    progress: &P,
+) -> Result<Reply, CallError>
+    ensures reply { IfOk result (IsReplyTo (F.gives files.now) (Request.Run request.entry)) }
+    ensures stopped { IfErr result (IsRunRefused (F.gives files.now) request.entry) }
+{
+    match workers_in(request.workers) {
+        Some(workers) => ran(rt, alloc, request, files, progress, workers),
+        None => Err(CallError::Mistaken(Mistake::UnclearWorkers)),
+    }
 }

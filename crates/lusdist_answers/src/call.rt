@@ -4,7 +4,7 @@ ghost use Rattle.std.specs.Prelude.{◌≡◌, ◌⊎◌, ◌++◌, ℕ, true, [
 ghost use Rattle.std.specs.Io.KnownBytes.{Appends};
 ghost use Rattle.clap.specs.Words.{takes, fault_of, subcommand_of, subcommand_rows_of};
 ghost use Rattle.lusdist_shell.specs.CommandLine.{lusdist};
-ghost use Rattle.lusdist_shell.specs.Request.{HasFewWorkers, IsCommand};
+ghost use Rattle.lusdist_shell.specs.Request.{IsCommand};
 ghost use Rattle.lusdist_shell.specs.Dumps.{Written};
 ghost use Rattle.lusdist_shell.specs.Sinks.{HasLine};
 ghost use Rattle.lusdist_call.specs.Answers.{IsReplyTo, AskForNoNotes, IsDone};
@@ -36,7 +36,6 @@ fn answer<R: Threads + Wait + Clock + Sync, F: Files, P: Progress>(
     files: &F,
     progress: &P,
 ) -> Result<Reply, Refusal>
-    requires { HasFewWorkers request }
     ensures reply { IfOk result (IsReplyTo (F.gives files.now) request.entry) }
     ensures refusal { IfErr result (IsRefusalOf (F.gives files.now) request.entry) }
 {
@@ -138,7 +137,6 @@ fn perform<R: Threads + Wait + Clock + Sync, F: Files, D: Dumps, P: Progress, W:
     out: &mut Sink<W>,
     err: &mut Sink<V>,
 ) -> u8
-    requires { HasFewWorkers request }
     ensures { (wrote : List Written) × (D.written dumps.new ≡ D.written dumps.old ++ wrote)
         × IsEnded (F.gives files.now) request.entry result wrote (record {
           out = out.old;

@@ -1,12 +1,10 @@
 //! A run of a job on threads.
 
-ghost use Rattle.std.specs.Prelude.{◌≡◌, ◌<◌, length, false, IfOk, IfErr, IfSome, MatchResult, string_bytes, option_map};
-ghost use Rattle.luflow.specs.Variables.{outputs_of};
-ghost use Rattle.lurun_reports.specs.Reports.{AreOutputsOf};
-ghost use Rattle.lurun_rows.specs.Rows.{AreRowsOf};
-ghost use Rattle.lusdist_shell.specs.Request.{AreFew};
+ghost use Rattle.std.specs.Prelude.{◌≡◌, IfOk, IfErr, string_bytes, option_map};
+ghost use Rattle.lurun.specs.Reports.{AreOutputsOf, HasOutput};
+ghost use Rattle.lurun.specs.Runs.{AreSome, IsStopOfJob};
 ghost use Rattle.lutab.specs.Outputs.{output_text};
-ghost use Rattle.lusdist_call.specs.Ran.{IsRunError, IsRunReply, IsStopOfRun};
+ghost use Rattle.lusdist_call.specs.Ran.{IsRunReply, IsStopOfRun};
 ghost use Rattle.lusdist_call.specs.Files.{dump_for, run_path};
 ghost use Rattle.lusdist_call.specs.Waved.{run_dump};
 ghost use Rattle.lusdist_call.specs.Violations.{has_lines, output_flows, violations};
@@ -18,8 +16,7 @@ use crate::filing::dump_of_run;
 use luflow::Outputs;
 use lulink::EndTally;
 use luplace::{Job, Plan};
-use lurun::{Gate, RunError, run_crew, run_threads, stations};
-use lurun_rows::{SiteStation, list_stations, row_stations, run_rows};
+use lurun::{Engine, Gate, Options, RunError, Workers, run};
 use lusdist_call::{CallError, Reply, column_violations};
 use lusdist_shell::{Progress, RunRequest};
 use lustats::RunStats;
@@ -51,6 +48,12 @@ impl<'p, P: Progress> Gate for Open<'p, P> {
             stats.note(site, end);
         }
     }
+
+    fn again(&self) {
+        if let Some(stats) = self.stats {
+            stats.clear();
+        }
+    }
 }
 
 /// The gate for a run of a job: it reports the progress, and gathers what is counted, where these are given.
@@ -65,136 +68,18 @@ fn gate_for<'p, P: Progress>(
     Open { progress, stats }
 }
 
-/// The outputs of a job whose sites pass values one by one, run by so many workers, or with a thread for each site.
-fn outputs_by_items<R: Threads + Wait + Sync, G: Gate>(
-    rt: &R,
-    alloc: Global,
-    job: &Job,
-    workers: Option<u8>,
-    gate: &G,
-) -> Result<Outputs, RunError>
-    requires few { AreFew workers }
-    requires some { 0 < length (outputs_of job.now.plan.flat.variables) }
-    ensures { MatchResult result (AreOutputsOf job.now) (IsRunError job.now) }
+/// How a run goes that is asked for, with these workers.
+fn options_of(workers: Workers, items: bool) -> Options
+    ensures { result.workers ≡ workers }
 {
-    let stations = stations(alloc, job)?;
-    match workers {
-        Some(workers) => run_crew(rt, alloc, stations, workers, gate),
-        None => run_threads(rt, alloc, stations, gate),
-    }
-}
-
-/// The workers of a run by rows: so many, or one for each site.
-fn row_workers(workers: Option<u8>, sites: usize) -> u8
-    requires { AreFew workers }
-    ensures { 0 < result }
-{
-    match workers {
-        Some(workers) => workers,
-        None => u8::try_from(sites).unwrap_or(u8::MAX).max(1),
-    }
-}
-
-/// The most flows at a site that take less time for an instant than a thread takes to wait for another one.
-const FEW_FLOWS: usize = 40;
-
-/// Whether more flows than these few stand at a site.
-fn is_large(plan: &Plan, site: u8) -> bool {
-    let mut count = 0usize;
-    for i in 0..plan.flat().flows().len() {
-        if plan.stands(i, site) {
-            count = count.saturating_add(1);
-        }
-    }
-    count > FEW_FLOWS
-}
-
-/// The workers of a run by lists: so many; where that isn't given and no site is large, one for all sites.
-fn list_workers(workers: Option<u8>, plan: &Plan) -> Option<u8>
-    requires { AreFew workers }
-    ensures { AreFew result }
-{
-    if workers.is_some() {
-        return workers;
-    }
-    for site in 0..u8::try_from(plan.sites().len()).unwrap_or(u8::MAX) {
-        if is_large(plan, site) {
-            return None;
-        }
-    }
-    Some(1)
-}
-
-/// The stations of a job whose sites work in blocks of instants, or once an instant, and how many workers serve them. None where some site
-/// can't be one.
-fn stations_for(
-    alloc: Global,
-    job: &Job,
-    workers: Option<u8>,
-) -> Result<Option<(Vec<SiteStation>, Option<u8>)>, AllocError>
-    requires { AreFew workers }
-    ensures of { IfOk result (λ o. IfSome o (λ x. AreRowsOf job.now x.0.items)) }
-    ensures few { IfOk result (λ o. IfSome o (λ x. AreFew x.1)) }
-{
-    if let Some(stations) = row_stations(alloc, job)? {
-        return Ok(Some((stations, workers)));
-    }
-    let Some(stations) = list_stations(alloc, job)? else {
-        return Ok(None);
-    };
-    Ok(Some((stations, list_workers(workers, job.plan()))))
-}
-
-/// The outputs of a job whose sites work in blocks of instants, or once an instant, run by so many workers, or with a thread for each site
-/// that is worth one. None where some site can't, or where not all sites have ended, as at a fault.
-fn outputs_by_rows<R: Threads + Wait + Clock + Sync, G: Gate>(
-    rt: &R,
-    alloc: Global,
-    job: &Job,
-    workers: Option<u8>,
-    gate: &G,
-) -> Result<Option<Outputs>, RunError>
-    requires { AreFew workers }
-    ensures { MatchResult result (λ o. IfSome o (AreOutputsOf job.now)) (IsRunError job.now) }
-{
-    let found = stations_for(alloc, job, workers)?;
-    let Some((stations, workers)) = found else {
-        return Ok(None);
-    };
-    let workers = row_workers(workers, stations.len());
-    run_rows(rt, alloc, stations, workers, gate)
-}
-
-/// The outputs of a job that is run by so many workers, or with a thread for each site: by rows or instant by instant where that isn't ruled
-/// out and has outputs, else item by item.
-fn outputs_of_run<R: Threads + Wait + Clock + Sync, P: Progress>(
-    rt: &R,
-    alloc: Global,
-    job: &Job,
-    workers: Option<u8>,
-    items: bool,
-    progress: Option<&P>,
-    stats: Option<&RunStats>,
-) -> Result<Outputs, RunError>
-    requires few { AreFew workers }
-    requires some { 0 < length (outputs_of job.now.plan.flat.variables) }
-    ensures { MatchResult result (AreOutputsOf job.now) (IsRunError job.now) }
-{
-    let gate = gate_for(job, progress, stats);
-    if !items {
-        if let Some(outputs) = outputs_by_rows(rt, alloc, job, workers, &gate)? {
-            return Ok(outputs);
-        }
-        if let Some(stats) = stats {
-            stats.clear();
-        }
-    }
-    outputs_by_items(rt, alloc, job, workers, &gate)
+    let way = if items { Some(Engine::Items) } else { None };
+    Options { workers, way }
 }
 
 /// The stop for a run that has no outputs.
 fn stop_of(alloc: Global, job: &Job, error: RunError) -> CallError
-    requires { IsRunError job.now error }
+    requires error { IsStopOfJob job.now error }
+    requires some { HasOutput job.now }
     ensures { IsStopOfRun job.now result }
 {
     let flat = job.plan().flat();
@@ -211,24 +96,23 @@ fn stop_of(alloc: Global, job: &Job, error: RunError) -> CallError
     }
 }
 
-/// The outputs of a job that is run by so many workers, 1 to 16, or with a thread for each site; or why there are
-/// none. All its threads have ended when it returns. Where a progress is given, it gets how far the sites have come, and the same of
-/// what is counted.
+/// The outputs of a job that is run as is asked for, or why there are none. All its threads have ended when it returns. Where a progress is
+/// given, it gets how far the sites have come, and the same of what is counted.
 fn run_outputs<R: Threads + Wait + Clock + Sync, P: Progress>(
     rt: &R,
     alloc: Global,
     job: &Job,
-    workers: Option<u8>,
-    items: bool,
+    options: Options,
     progress: Option<&P>,
     stats: Option<&RunStats>,
 ) -> Result<Outputs, CallError>
-    requires few { AreFew workers }
-    requires some { 0 < length (outputs_of job.now.plan.flat.variables) }
+    requires workers { AreSome options.workers }
+    requires some { HasOutput job.now }
     ensures outputs { IfOk result (AreOutputsOf job.now) }
     ensures stopped { IfErr result (IsStopOfRun job.now) }
 {
-    match outputs_of_run(rt, alloc, job, workers, items, progress, stats) {
+    let gate = gate_for(job, progress, stats);
+    match run(rt, alloc, job, options, &gate) {
         Ok(outputs) => Ok(outputs),
         Err(error) => Err(stop_of(alloc, job, error)),
     }
@@ -276,16 +160,18 @@ pub fn run_table<R: Threads + Wait + Clock + Sync, P: Progress>(
     request: RunRequest<'_>,
     progress: &P,
     job: &Job,
+    workers: Workers,
 ) -> Result<Reply, CallError>
-    requires few { AreFew request.workers }
-    requires some { 0 < length (outputs_of job.now.plan.flat.variables) }
+    requires workers { AreSome workers }
+    requires some { HasOutput job.now }
     ensures reply { IfOk result (IsRunReply job.now request.entry) }
     ensures stopped { IfErr result (IsStopOfRun job.now) }
 {
     let asked = request.progress.then_some(progress);
     let count = begin_count(rt, alloc, job.plan(), request.stats)?;
     let stats = stats_in(&count);
-    let outputs = run_outputs(rt, alloc, job, request.workers, request.items, asked, stats)?;
+    let options = options_of(workers, request.items);
+    let outputs = run_outputs(rt, alloc, job, options, asked, stats)?;
     let counted = count_text(rt, alloc, job, &count)?;
     let reply = reported_outputs(alloc, request, job.plan(), &outputs)?;
     let whole = reply.behind(counted)?;

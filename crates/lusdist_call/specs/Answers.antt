@@ -45,7 +45,7 @@ use Rattle.lusdist_call.specs.Counted.{AreStats}
 use Rattle.lusdist_call.specs.Evaluated.{AreOutputsOf, IsEvaluated}
 use Rattle.lusdist_call.specs.Explained.{code_in, explanation}
 use Rattle.lusdist_call.specs.Files.{dump_for, replay_path, run_path}
-use Rattle.lusdist_call.specs.Mistakes.{replay_mistake}
+use Rattle.lusdist_call.specs.Mistakes.{replay_mistake, run_mistake}
 use Rattle.lusdist_call.specs.Noted.{AreReplayNotes}
 use Rattle.lusdist_call.specs.RunReportTexts.{run_report_text, IsReportedBy}
 use Rattle.clap.specs.Walk.{texts}
@@ -134,6 +134,7 @@ pub record IsReplayed (gives : FileFacts) (request : ReplayRequest) (text notes 
 -- told of what it counted, where that is asked for, and of outputs that are observed.
 pub record IsRan (gives : FileFacts) (request : RunRequest) (text notes : List ℕ)
     (dump : Option (List ℕ)) : Type 0 where
+  pub meant : run_mistake request ≡ None
   pub job : JobView
   pub asked_for : IsJobFor gives request.program.now request.place.now request.table.now request.main.now job
   pub outputs : List OutputColumn

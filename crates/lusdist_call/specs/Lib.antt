@@ -22,3 +22,4 @@ pub mod Files
 pub mod Targets
 pub mod Headline
 pub mod Violations
+pub mod Workers

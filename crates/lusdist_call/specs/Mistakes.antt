@@ -1,8 +1,10 @@
 -- What is wrong with words that the command line takes, and the line that reports it.
-use Rattle.std.specs.Prelude.{ℕ, Bool, List, ◌++◌, codes, Option, Some, None, nat_lt, if◌then◌else◌}
+use Rattle.std.specs.Prelude.{ℕ, Bool, List, ◌++◌, codes, Option, Some, None, nat_lt}
+use Rattle.std.specs.Prelude.{if◌then◌else◌, option_map}
 use Rattle.std.specs.Fmt.{decimal}
 use Rattle.lusdist_shell.specs.declared.request.EvalRequest.{EvalRequest}
 use Rattle.lusdist_shell.specs.declared.request.ReplayRequest.{ReplayRequest}
+use Rattle.lusdist_shell.specs.declared.request.RunRequest.{RunRequest}
 use Rattle.lusdist_shell.specs.declared.request.TurnsForm.{TurnsForm}
 use Rattle.lusdist_shell.specs.declared.request.TurnsForm.TheVariants.{Lines, Chart, Nothing}
 use Rattle.lusdist_shell.specs.declared.request.TurnsSource.{TurnsSource}
@@ -10,7 +12,9 @@ use Rattle.lusdist_shell.specs.declared.request.TurnsSource.TheVariants.{Unclear
 use Rattle.lusdist_call.specs.declared.mistake.Mistake.{Mistake}
 use Rattle.lusdist_call.specs.declared.mistake.Mistake.TheVariants.{UnknownCode, NoChart, Backwards}
 use Rattle.lusdist_call.specs.declared.mistake.Mistake.TheVariants.{Overwritten, TwoForms, Unobserved}
-use Rattle.lusdist_call.specs.declared.mistake.Mistake.TheVariants.{UnclearTurns, NoTurns}
+use Rattle.lusdist_call.specs.declared.mistake.Mistake.TheVariants.{UnclearTurns, NoTurns, UnclearWorkers}
+use Rattle.lurun.specs.declared.options.Workers.{Workers}
+use Rattle.lusdist_call.specs.Workers.{workers_in}
 use Rattle.lusdist_call.specs.declared.role.Role.{Role}
 use Rattle.lusdist_call.specs.declared.role.Role.TheVariants.{Program, Place, Table, Schedule}
 
@@ -32,6 +36,7 @@ line_of (Overwritten path role) =
 line_of TwoForms = codes "error: --text and --chronogram ask for two forms"
 line_of (Unobserved name) =
     codes "error: --always " ++ (name ++ codes " is no bool output of the main node")
+line_of UnclearWorkers = codes "error: --workers takes a number from 1 to 16, or auto"
 line_of NoTurns = codes "error: --from and --to need --trace or --chart"
 line_of UnclearTurns = codes "error: the turns are those of SCHEDULE, or random by --random and --turns"
 
@@ -84,3 +89,16 @@ first_mistake None other = other
 abbrev pub replay_mistake : ReplayRequest → Option Mistake
 replay_mistake request =
     first_mistake (turns_mistake request.source) (cut_mistake request.turns request.from request.to)
+
+-- the word for the workers of a run names some
+abbrev pub unclear_workers : Option Workers → Option Mistake
+unclear_workers None = Some UnclearWorkers
+unclear_workers (Some workers) = None
+
+-- the word for its workers, where there is one
+abbrev pub workers_word : RunRequest → Option (List ℕ)
+workers_word request = option_map (λ s. s.now) request.workers
+
+-- what is wrong with what a run is asked for
+abbrev pub run_mistake : RunRequest → Option Mistake
+run_mistake request = unclear_workers (workers_in (workers_word request))

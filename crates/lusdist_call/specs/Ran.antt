@@ -4,9 +4,7 @@ use Rattle.luflow.specs.Tables.{OutputColumn}
 use Rattle.luflow.specs.Variables.{variable_name}
 use Rattle.luworld.specs.Jobs.{JobView}
 use Rattle.lusite.specs.Machine.{IsFaultAt}
-use Rattle.lurun_reports.specs.declared.error.RunError.{RunError}
-use Rattle.lurun_reports.specs.declared.error.RunError.TheVariants as run
-use Rattle.lurun_reports.specs.Reports.{AreOutputsOf}
+use Rattle.lurun.specs.Reports.{AreOutputsOf}
 use Rattle.lutab.specs.Outputs.{output_text}
 use Rattle.lusdist_shell.specs.declared.request.RunRequest.{RunRequest}
 use Rattle.lusdist_call.specs.declared.reply.Reply.{Reply}
@@ -19,17 +17,8 @@ use Rattle.lusdist_call.specs.declared.call_error.CallError.{CallError}
 use Rattle.lusdist_call.specs.declared.call_error.CallError.TheVariants.{Fault, LinkLost, NoThread}
 use Rattle.lusdist_call.specs.declared.call_error.CallError.TheVariants.{OutOfMemory}
 
--- why a run of all sites of a job has no outputs: a fault at which one of them stopped, or something that
--- says nothing of the job
-abbrev pub IsRunError : JobView → RunError → Type 0
-IsRunError job (run.Fault variable instant kind) =
-    (site : ℕ) × IsFaultAt job site (record { variable = variable; instant = instant; kind = kind })
-IsRunError job run.WrongReports = ⊥
-IsRunError job run.OutOfMemory = Unit {0}
-IsRunError job run.LinkLost = Unit {0}
-IsRunError job run.NoThread = Unit {0}
-
--- the same with the name of the fault's main variable
+-- why a run of a job with an output stops: a fault at which one of its sites stopped, with the name of its main
+-- variable, or something that says nothing of the job
 abbrev pub IsStopOfRun : JobView → CallError → Type 0
 IsStopOfRun job (Fault name instant kind) = (variable : ℕ) × (site : ℕ)
     × (name ≡ variable_name job.plan.flat variable) × IsFaultAt job site (record {

@@ -30,7 +30,7 @@ use Rattle.lusdist_call.specs.declared.call_error.CallError.TheVariants.{OutOfMe
 use Rattle.lusdist_call.specs.declared.mistake.Mistake.{Mistake}
 use Rattle.lusdist_call.specs.declared.refusal.Refusal.{Refusal}
 use Rattle.lusdist_call.specs.Files.{IsUnread}
-use Rattle.lusdist_call.specs.Mistakes.{mistake_in, replay_mistake}
+use Rattle.lusdist_call.specs.Mistakes.{mistake_in, replay_mistake, run_mistake}
 use Rattle.lusdist_call.specs.Statuses.{status_of}
 use Rattle.luflow.specs.Variables.{variable_name}
 use Rattle.lusource.specs.Source.{SourceStreams, IsSourceSolution}
@@ -201,6 +201,11 @@ pub data IsRunStopped (gives : FileFacts) (request : RunRequest) (stop : CallErr
       → IsUnobserved job.plan.flat (texts request.always.now) stop → IsRunStopped gives request stop
   run_memory : stop ≡ OutOfMemory → IsRunStopped gives request stop
 
+pub data IsRunRefused (gives : FileFacts) (request : RunRequest) (stop : CallError) : Type 0 where
+  run_mistaken : (mistake : Mistake) → run_mistake request ≡ Some mistake → stop ≡ Mistaken mistake
+      → IsRunRefused gives request stop
+  run_stopped : run_mistake request ≡ None → IsRunStopped gives request stop → IsRunRefused gives request stop
+
 -- what a request asks for stops so
 abbrev pub IsRequestStopped : FileFacts → Request → CallError → Type 0
 IsRequestStopped gives (Check request) stop = IsCheckStopped gives request stop
@@ -208,7 +213,7 @@ IsRequestStopped gives (Eval request) stop = IsEvalRefused gives request stop
 IsRequestStopped gives (New request) stop = IsNewStopped gives request stop
 IsRequestStopped gives (Plan request) stop = IsPlanStopped gives request stop
 IsRequestStopped gives (Replay request) stop = IsReplayRefused gives request stop
-IsRequestStopped gives (AsksRun request) stop = IsRunStopped gives request stop
+IsRequestStopped gives (AsksRun request) stop = IsRunRefused gives request stop
 IsRequestStopped gives (Explain request) stop = IsExplainStopped (code_in request) stop
 
 -- the dump of a call that stops: of an evaluation at a fault, that of the instants before it; else none

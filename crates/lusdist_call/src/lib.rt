@@ -37,11 +37,13 @@ mod refusal;
 mod reply;
 mod role;
 mod violations;
+mod workers;
 
 pub use call_error::CallError;
 pub use files::{file_dump, read};
-pub use mistake::{Mistake, mistake_in, replay_mistake};
+pub use mistake::{Mistake, mistake_in, replay_mistake, run_mistake};
 pub use refusal::Refusal;
 pub use reply::{Reply, put_reply, status_beside};
 pub use role::Role;
 pub use violations::{column_violations, observe, world_violations};
+pub use workers::workers_in;

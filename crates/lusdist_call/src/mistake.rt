@@ -1,11 +1,12 @@
 //! What is wrong with words that the command line takes.
 
 ghost use Rattle.std.specs.Prelude.{◌≡◌};
-ghost use Rattle.lusdist_call.specs.Mistakes.{chartless, unordered, backwards, charted, cut_mistake, mistake_in, replay_mistake, turnless, turns_mistake};
+ghost use Rattle.lusdist_call.specs.Mistakes.{chartless, unordered, backwards, charted, cut_mistake, mistake_in, replay_mistake, run_mistake, turnless, turns_mistake};
 
 use crate::role::Role;
+use crate::workers::workers_in;
 use lubase::Name;
-use lusdist_shell::{EvalRequest, ReplayRequest, TurnsForm, TurnsSource};
+use lusdist_shell::{EvalRequest, ReplayRequest, RunRequest, TurnsForm, TurnsSource};
 use std::fmt;
 use thiserror::Error;
 
@@ -28,6 +29,8 @@ pub enum Mistake {
     UnclearTurns,
     /// Instants are given for turns of a replay of which none are reported.
     NoTurns,
+    /// The word for the workers of a run names none.
+    UnclearWorkers,
 }
 
 impl fmt::Display for Mistake {
@@ -57,6 +60,9 @@ impl fmt::Display for Mistake {
                 name.as_str()
             ),
             Mistake::NoTurns => f.write_str("error: --from and --to need --trace or --chart"),
+            Mistake::UnclearWorkers => {
+                f.write_str("error: --workers takes a number from 1 to 16, or auto")
+            }
             Mistake::UnclearTurns => f.write_str(
                 "error: the turns are those of SCHEDULE, or random by --random and --turns",
             ),
@@ -164,5 +170,15 @@ pub fn replay_mistake(request: ReplayRequest<'_>) -> Option<Mistake>
     match turns_mistake(request.source) {
         Some(mistake) => Some(mistake),
         None => cut_mistake(request.turns, request.from, request.to),
+    }
+}
+
+/// What is wrong with what a run is asked for.
+pub fn run_mistake(request: RunRequest<'_>) -> Option<Mistake>
+    ensures { result ≡ run_mistake request.entry }
+{
+    match workers_in(request.workers) {
+        Some(_) => None,
+        None => Some(Mistake::UnclearWorkers),
     }
 }

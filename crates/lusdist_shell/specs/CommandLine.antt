@@ -1,6 +1,6 @@
 -- The command line of the program, in the words of the crate that parses it.
 use Rattle.std.specs.Prelude.{ℕ, [], ◌∷◌, true, codes, Some}
-use Rattle.lulimits.specs.Limits.{longest_schedule, most_instants, most_workers}
+use Rattle.lulimits.specs.Limits.{longest_schedule, most_instants}
 use Rattle.clap.specs.Walk.{Rule, Text}
 use Rattle.clap.specs.Simple.{App, new_app, new_rule, on_top, with_rule, with_subcommand}
 use Rattle.clap.specs.declared.builder.action.ArgAction.TheVariants.{Set, SetTrue, Append}
@@ -118,17 +118,9 @@ replay =
     (path_rule (codes "PROGRAM"))) (path_rule (codes "PLACE"))) (path_rule (codes "TABLE")))
     (optional_rule (codes "SCHEDULE"))
 
--- the fewest workers that may serve the sites
-abbrev pub fewest_workers : ℕ
-fewest_workers = 1
-
--- `--workers W`, a decimal number from 1 to 16
+-- `--workers W`
 abbrev pub workers_rule : Rule
-workers_rule = record (new_rule (codes "workers")) {
-  long = Some (codes "workers");
-  value_names = 1;
-  parser = Some (Unsigned fewest_workers most_workers);
-}
+workers_rule = record (new_rule (codes "workers")) { long = Some (codes "workers"); value_names = 1 }
 
 -- `run PROGRAM PLACE TABLE [--main NAME] [--explain] [--short] [--workers W] [--progress] [--items] [--stats]
 -- [--vcd FILE] [--always NAME]..`

@@ -23,8 +23,8 @@ use Rattle.lusdist_shell.specs.declared.request.TurnsSource.TheVariants.{File, R
 use Rattle.lusdist_shell.specs.declared.request.RunRequest.{RunRequest}
 use Rattle.lusdist_shell.specs.declared.request.Request.{Request}
 use Rattle.lusdist_shell.specs.declared.request.Request.TheVariants.{Check, Eval, New, Plan, Replay, Run, Explain}
-use Rattle.lulimits.specs.Limits.{most_instants, most_workers}
-use Rattle.lusdist_shell.specs.CommandLine.{fewest_workers, last_instant, greatest_seed, lusdist}
+use Rattle.lulimits.specs.Limits.{most_instants}
+use Rattle.lusdist_shell.specs.CommandLine.{last_instant, greatest_seed, lusdist}
 
 -- the text that the matches of a command hold for an argument
 abbrev pub text_in : List Row → Text → Text
@@ -47,17 +47,6 @@ form_in matches = if is_given matches (codes "dot") then Graph else (if is_given
 abbrev pub turns_in : List Row → TurnsForm
 turns_in matches = if is_given matches (codes "chart") then Chart else (if is_given matches (codes "trace")
     then Lines else Nothing)
-
--- The number of workers that the text for them spells, in decimal; there is none where there is no text. The
--- command line takes no other text than that of a number from 1 to 16.
-abbrev pub AreWorkersIn : Option Text → Option ℕ → Type 0
-AreWorkersIn None workers = workers ≡ None
-AreWorkersIn (Some text) workers = IsUnsignedIn fewest_workers most_workers text
-    → workers ≡ Some (digits_value 10 (without_leading_plus text))
-
--- where there is a number of workers, it is one from 1 to 16
-abbrev pub AreFew : Option ℕ → Type 0
-AreFew workers = IfSome workers (λ n. (fewest_workers ≤ n) × (n ≤ most_workers))
 
 -- The instant that the text for it spells, in decimal; there is none where there is no text. The command line
 -- takes no other text than that of an instant that a table may have.
@@ -191,13 +180,12 @@ pub record IsRunIn (command : Option (Text × List Row)) (request : RunRequest) 
   pub program : request.program.now ≡ text_in matches (codes "PROGRAM")
   pub place : request.place.now ≡ text_in matches (codes "PLACE")
   pub table : request.table.now ≡ text_in matches (codes "TABLE")
-  pub workers : AreWorkersIn (first_of (codes "workers") matches) request.workers
+  pub workers : option_map (λ s. s.now) request.workers ≡ first_of (codes "workers") matches
   pub progress : request.progress ≡ is_given matches (codes "progress")
   pub items : request.items ≡ is_given matches (codes "items")
   pub stats : request.stats ≡ is_given matches (codes "stats")
   pub vcd : option_map (λ s. s.now) request.vcd ≡ first_of (codes "vcd") matches
   pub always : texts request.always.now ≡ texts_in matches (codes "always")
-  pub few : AreFew request.workers
 
 -- The command is `explain`, and the request has the code that its matches hold, where they hold one.
 pub record IsExplainIn (command : Option (Text × List Row)) (request : ExplainRequest) : Type 0 where
@@ -214,11 +202,6 @@ IsFoundIn command (Plan request) = IsPlanIn command request
 IsFoundIn command (Replay request) = IsReplayIn command request
 IsFoundIn command (Run request) = IsRunIn command request
 IsFoundIn command (Explain request) = IsExplainIn command request
-
--- where the request is for a run, its workers are from 1 to 16
-abbrev pub HasFewWorkers : Request → Type 0
-HasFewWorkers (Run request) = AreFew request.workers
-HasFewWorkers _ = Unit {0}
 
 -- The request is for the command that the words name, with what they give its arguments.
 abbrev pub IsAskedBy : List Text → Request → Type 0

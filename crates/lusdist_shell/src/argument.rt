@@ -7,11 +7,8 @@ ghost use Rattle.lusdist_shell.specs.Arguments.{rule_in};
 
 use clap::builder::ValueParser;
 use clap::{Arg, ArgAction};
-use lulimits::limits::{MOST_INSTANTS, MOST_WORKERS};
+use lulimits::limits::MOST_INSTANTS;
 use std::alloc::Global;
-
-/// The fewest workers that may serve the sites.
-const FEWEST_WORKERS: u64 = 1;
 
 /// The last instant that a table may have.
 const LAST_INSTANT: u64 = 999_999;
@@ -147,9 +144,8 @@ fn workers<'a>(alloc: Global) -> Arg<'a>
     Arg::new(alloc, "workers")
         .long("workers")
         .value_name("W")
-        .value_parser(ValueParser::Unsigned(FEWEST_WORKERS, MOST_WORKERS))
         .help(
-            "How many threads serve the sites, 1 to 16; without it each site has its own, or small sites that feed each other share one",
+            "How many threads serve the sites, 1 to 16, or auto for as many as are quickest; without it each site has its own",
         )
 }
 

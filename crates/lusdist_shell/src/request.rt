@@ -4,12 +4,11 @@ ghost use Rattle.std.specs.Prelude.{◌≡◌, IfOk, IfErr, map, option_map, tru
 ghost use Rattle.clap.specs.Words.{kind_of, takes, found_of, first_of, rows_of, subcommand_of, subcommand_rows_of, FailsBy, fault_of};
 ghost use Rattle.clap.specs.declared.error.kind.ErrorKind.TheVariants.{OutOfMemory};
 ghost use Rattle.lusdist_shell.specs.CommandLine.{lusdist};
-ghost use Rattle.lusdist_shell.specs.Request.{text_in, is_given, form_in, turns_in, IsCommand, IsCheckIn, IsEvalIn, IsNewIn, IsPlanIn, IsReplayIn, IsRunIn, IsExplainIn, IsInstantIn, IsNumberIn, IsSourceIn, source_of, schedule_file, AreInstantsIn, AreWorkersIn, AreFew, HasFewWorkers, IsFoundIn, texts_in};
+ghost use Rattle.lusdist_shell.specs.Request.{text_in, is_given, form_in, turns_in, IsCommand, IsCheckIn, IsEvalIn, IsNewIn, IsPlanIn, IsReplayIn, IsRunIn, IsExplainIn, IsInstantIn, IsNumberIn, IsSourceIn, source_of, schedule_file, AreInstantsIn, IsFoundIn, texts_in};
 ghost use Rattle.clap.specs.Walk.{texts};
 
 use crate::command::lusdist;
 use clap::{ArgMatches, Error};
-use lulimits::limits::MOST_WORKERS;
 use std::alloc::Global;
 
 /// What a check is asked of.
@@ -188,9 +187,8 @@ pub struct RunRequest<'a> {
     pub place: &'a str,
     /// The path of the input table.
     pub table: &'a str,
-    /// How many threads serve the sites, 1 to 16; where there is none, each site has a thread of its own, or small sites that feed each
-    /// other share one.
-    pub workers: Option<u8>,
+    /// How many threads serve the sites, as it is written, where it is given.
+    pub workers: Option<&'a str>,
     /// Whether it is reported on the error stream how far the sites have come.
     pub progress: bool,
     /// Whether values are passed one by one, also where the sites could work in blocks.
@@ -290,6 +288,14 @@ fn vcd_in<'a>(matches: &ArgMatches<'a>) -> Option<&'a str>
         ≡ first_of (codes "vcd") (rows_of (found_of matches.now)) }
 {
     matches.get_str("vcd")
+}
+
+/// How many threads serve the sites, as it is written, where it is given.
+fn workers_in<'a>(matches: &ArgMatches<'a>) -> Option<&'a str>
+    ensures { option_map (λ s. s.now) result
+        ≡ first_of (codes "workers") (rows_of (found_of matches.now)) }
+{
+    matches.get_str("workers")
 }
 
 /// What the matches of `eval` ask for.
@@ -452,30 +458,6 @@ fn replay_in<'m, 'a: 'm>(matches: &'m ArgMatches<'a>) -> ReplayRequest<'m>
     }
 }
 
-/// The number of workers that a text spells.
-fn workers_of(text: Option<&str>) -> Option<u8>
-    ensures said { AreWorkersIn (option_map (λ s. s.now) text.entry) result }
-    ensures few { AreFew result }
-{
-    let Ok(workers) = text?.parse::<u8>() else {
-        return None;
-    };
-    if 1 <= workers && u64::from(workers) <= MOST_WORKERS {
-        Some(workers)
-    } else {
-        None
-    }
-}
-
-/// The number of workers, where it is given.
-fn workers_in<'a>(matches: &ArgMatches<'a>) -> Option<u8>
-    ensures said { AreWorkersIn (first_of (codes "workers") (rows_of (found_of matches.now)))
-        result }
-    ensures few { AreFew result }
-{
-    workers_of(matches.get_str("workers"))
-}
-
 /// What the matches of `run` ask for.
 fn run_in<'m, 'a: 'm>(matches: &'m ArgMatches<'a>) -> RunRequest<'m>
     ensures { IsRunIn (Some (codes "run", rows_of (found_of matches.now))) result }
@@ -508,8 +490,7 @@ fn explain_in<'a>(matches: &ArgMatches<'a>) -> ExplainRequest<'a>
 /// What the words of a command line ask for, of which these are the matches.
 pub fn request_in<'m, 'a: 'm>(matches: &'m ArgMatches<'a>) -> Request<'m>
     requires { IsCommand (subcommand_rows_of matches.now) }
-    ensures found { IsFoundIn (subcommand_rows_of matches.now) result }
-    ensures few { HasFewWorkers result }
+    ensures { IsFoundIn (subcommand_rows_of matches.now) result }
 {
     let Some((name, found)) = matches.subcommand() else {
         unreachable!();

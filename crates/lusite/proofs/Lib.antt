@@ -21,3 +21,5 @@ pub mod KeptFlows
 mod Drawn
 mod Instants
 mod OneMore
+mod Unstopped
+mod Wholes

@@ -75,7 +75,7 @@ module _ (job : JobView) (s : ℕ) (ij : IsJob job) where
   abbrev size : ℕ → ℕ → ℕ
   size t p = length (cell job (streams_of job) s t (slice_index job.plan.flat.order p))
 
-  steps : (t p j : ℕ) → at t p j ≡ at t p 0 + j
+  pub steps : (t p j : ℕ) → at t p j ≡ at t p 0 + j
   unfolding items_before
   steps t p j = omega arith
 
@@ -98,13 +98,13 @@ module _ (job : JobView) (s : ℕ) (ij : IsJob job) where
   flow_then : (t p q : ℕ) → p < q → q ≤ ranks → at t p (size t p) ≤ at t q 0
   flow_then t p q l lq = omega (arith, before_next_flow job (streams_of job) s t p (omega (arith, l, lq)), flows_to t (p + 1) q (omega (arith, l)) lq)
 
-  instant_then : (t p u q : ℕ) → t < u → p < ranks → q ≤ ranks → at t p (size t p) ≤ at u q 0
+  pub instant_then : (t p u q : ℕ) → t < u → p < ranks → q ≤ ranks → at t p (size t p) ≤ at u q 0
   instant_then t p u q l lp lq =
       let e : t + 1 + (u - (t + 1)) ≡ u = omega (arith, l) in
       omega (arith, before_next_flow job (streams_of job) s t p lp, flows_to t (p + 1) ranks (omega (arith, lp)) (omega arith), before_next_instant job (streams_of job) s t, instants_up (t + 1) (u - (t + 1)), ap (λ v. at v 0 0) e, flows_to u 0 q (omega arith) lq)
 
   -- an own flow's computation is one of its items, and it has items only where it is present
-  own_size : (t p : ℕ) → p < ranks → stands job.plan (slice_index job.plan.flat.order p) s ≡ true → t < job.inputs.instants → (lead job p t ≤ size t p) × (0 < size t p → lead job p t ≡ 1)
+  pub own_size : (t p : ℕ) → p < ranks → stands job.plan (slice_index job.plan.flat.order p) s ≡ true → t < job.inputs.instants → (lead job p t ≤ size t p) × (0 < size t p → lead job p t ≡ 1)
   own_size t p lp own lt =
       let i = slice_index job.plan.flat.order p in
       let open' = is_open (clock_of_flow job.inputs (streams_of job) (flow_at job.plan.flat i) t) in
@@ -118,7 +118,7 @@ module _ (job : JobView) (s : ℕ) (ij : IsJob job) where
       go true = omega arith
       go false = omega arith
 
-  free_front : (n k : ℕ) → k ≤ n → IsFree job (take n (endless job (streams_of job) s)) → IsFree job (take k (endless job (streams_of job) s))
+  pub free_front : (n k : ℕ) → k ≤ n → IsFree job (take n (endless job (streams_of job) s)) → IsFree job (take k (endless job (streams_of job) s))
   free_front n k le h = front_free (outline job (streams_of job)) [] (endless job (streams_of job) s) n k le h
 
   free_before : (k : ℕ) → k < length (script job (streams_of job) s) → IsFree job (take k (endless job (streams_of job) s))

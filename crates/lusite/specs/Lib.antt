@@ -4,3 +4,4 @@ pub mod Logs
 pub mod Sites
 pub mod Widths
 pub mod States
+pub mod Reports

@@ -11,6 +11,7 @@ mod next;
 mod report;
 mod site;
 mod state;
+mod whole;
 
 pub use luflow::{Body, Datum, Msg, Status};
 pub use lusite_program::{LinkNo, SiteProgram, project};

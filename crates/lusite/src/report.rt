@@ -1,19 +1,23 @@
 //! What a site leaves.
 
-ghost use Rattle.std.specs.Prelude.{◌≡◌, ℕ, true, IfOk, length, slice_get};
+ghost use Rattle.std.specs.Prelude.{◌≡◌, ℕ, ◌<◌, true, IfOk, length, map, slice_get};
 ghost use Rattle.lusite.specs.Logs.{IsOutput};
 ghost use Rattle.lusite_program.specs.Logs.{row_items};
 ghost use Rattle.lusite.specs.Machine.{IsNext, IsStanding};
-ghost use Rattle.lusite_program.specs.Programs.{output_names, reports_output};
+ghost use Rattle.lusite_program.specs.Programs.{output_homes, output_names, reports_output};
 ghost use Rattle.luworld.specs.Needs.{sites_of};
-ghost use Rattle.luworld.specs.Jobs.{IsJob, outputs_of};
+ghost use Rattle.luworld.specs.Jobs.{IsJob, IsJobView, outputs_of};
+ghost use Rattle.luworld.specs.Sites.{AreWholeOutputs, IsSoundAt};
 
 use crate::next::{Fault, Next};
 use crate::site::Site;
-use lubase::Name;
+use crate::whole::WholeSite;
+use lubase::{Name, Row};
 use luflow::Status;
+use luplace::Job;
 use std::alloc::{AllocError, Global};
 use std::marker::Model;
+use std::snapshot::Snapshot;
 
 /// How a site stands.
 #[derive(Clone, Copy, Debug, Drop, PartialEq, Eq)]
@@ -26,24 +30,34 @@ pub enum Standing {
     Cut,
 }
 
+/// A site, by how it has gone.
+#[derive(Drop)]
+pub enum Gone {
+    /// Item by item, as far as its machine has come.
+    ByItem(Site),
+    /// In another way, and its whole script.
+    InWhole(WholeSite),
+}
+
 /// What a site leaves: how it stands, and its outputs so far. A contract sees what it saw of the site.
 pub struct SiteReport {
-    site: Site,
+    gone: Gone,
 }
 
 // By hand, so that it is proved here alone, and not in each crate that owns one.
 impl Drop for SiteReport {
     fn drop(self) {
-        let Self { site: _ } = self;
+        let Self { gone: _ } = self;
     }
 }
 
 impl Model for SiteReport {
     ghost use Rattle.lusite.specs.Sites.{SiteView};
+    ghost use Rattle.lusite.specs.Reports.{site_gone};
 
     ghost Value = { SiteView };
 
-    ghost view = { λ a. a.site };
+    ghost view = { λ a. site_gone a.gone };
 }
 
 /// Whether a site has ended.
@@ -76,23 +90,68 @@ impl Site {
     pub fn report(self) -> SiteReport
         ensures { result ≡ self }
     {
-        SiteReport { site: self }
+        SiteReport {
+            gone: Gone::ByItem(self),
+        }
     }
 }
 
 impl SiteReport {
+    ghost use Rattle.lusite.specs.Sites.{whole_site};
+
+    /// The report of a site that has done its whole script in another way than item by item: in blocks of instants, or once an
+    /// instant. By the number of each output, `names` has its name, `homes` the site that reports it, and `rows` all its statuses
+    /// where that is this site, else nothing. Takes no memory.
+    pub fn whole(
+        job: Snapshot<Job>,
+        site: u8,
+        sites: u8,
+        instants: u32,
+        names: Row<Name>,
+        homes: Row<u8>,
+        rows: Vec<Vec<Status>>,
+    ) -> SiteReport
+        requires run { IsJobView job.value }
+        requires inside { site < sites_of job.value.plan }
+        requires sites { sites ≡ sites_of job.value.plan }
+        requires instants { instants ≡ job.value.inputs.instants }
+        requires names { names ≡ output_names job.value.plan }
+        requires homes { homes ≡ output_homes job.value.plan }
+        requires sound { IsSoundAt job.value site }
+        requires whole { AreWholeOutputs job.value site (map (λ row. row.items) rows.items) }
+        ensures { result ≡ whole_site job.value site }
+    {
+        SiteReport {
+            gone: Gone::InWhole(WholeSite {
+                job,
+                site,
+                sites,
+                instants,
+                names,
+                homes,
+                rows,
+            }),
+        }
+    }
+
     /// The number of the site, from 0. Takes no memory.
     pub fn site(&self) -> u8
         ensures { result ≡ self.now.site }
     {
-        self.site.site()
+        match &self.gone {
+            Gone::ByItem(site) => site.site(),
+            Gone::InWhole(site) => site.site(),
+        }
     }
 
     /// The number of sites of the run, 1 to 16. Takes no memory.
     pub fn sites(&self) -> u8
         ensures { result ≡ sites_of self.now.job.plan }
     {
-        self.site.sites()
+        match &self.gone {
+            Gone::ByItem(site) => site.sites(),
+            Gone::InWhole(site) => site.sites(),
+        }
     }
 
     /// The number of instants of the run, 0 to 1,000,000. Takes no memory.
@@ -100,28 +159,40 @@ impl SiteReport {
         ensures instants { result ≡ self.now.job.inputs.instants }
         ensures job { IsJob self.now.job }
     {
-        self.site.instants()
+        match &self.gone {
+            Gone::ByItem(site) => site.instants(),
+            Gone::InWhole(site) => site.instants(),
+        }
     }
 
     /// The names of the main outputs, of all sites, in order of declaration: by the number of each. Takes no memory.
     pub fn names(&self) -> &[Name]
         ensures { result.now ≡ output_names self.now.job.plan }
     {
-        self.site.names()
+        match &self.gone {
+            Gone::ByItem(site) => site.names(),
+            Gone::InWhole(site) => site.names(),
+        }
     }
 
     /// Whether the site is the one that reports output k; false where there is no output k. Takes no memory.
     pub fn reports_output(&self, k: usize) -> bool
         ensures { result ≡ reports_output self.now.job.plan self.now.site k }
     {
-        self.site.reports_output(k)
+        match &self.gone {
+            Gone::ByItem(site) => site.reports_output(k),
+            Gone::InWhole(site) => site.reports_output(k),
+        }
     }
 
     /// How the site stands: ended or faulted exactly where its `next` said so, else cut. Takes no memory.
     pub fn standing(&self) -> Standing
         ensures { IsStanding self.now.job self.now.site self.now.done result }
     {
-        self.site.standing()
+        match &self.gone {
+            Gone::ByItem(site) => site.standing(),
+            Gone::InWhole(site) => site.standing(),
+        }
     }
 
     /// Output k as far as the site passed it: a prefix of its statuses, and all of them where the site has ended; empty
@@ -129,7 +200,10 @@ impl SiteReport {
     pub fn outputs(&self, k: usize) -> &[Status]
         ensures { IsOutput self.now.job self.now.site self.now.done k result.now }
     {
-        self.site.outputs(k)
+        match &self.gone {
+            Gone::ByItem(site) => site.outputs(k),
+            Gone::InWhole(site) => site.outputs(k),
+        }
     }
 
     /// All outputs, by number, each as [`SiteReport::outputs`] reports it: they are moved out of the report, and not copied.
@@ -138,7 +212,10 @@ impl SiteReport {
         ensures each { IfOk result (λ rows. (k : ℕ) → IsOutput self.job self.site self.done k
             (row_items (slice_get rows.items k))) }
     {
-        let SiteReport { site } = self;
-        site.into_outputs(alloc)
+        let SiteReport { gone } = self;
+        match gone {
+            Gone::ByItem(site) => site.into_outputs(alloc),
+            Gone::InWhole(site) => Ok(site.into_outputs()),
+        }
     }
 }

@@ -116,6 +116,10 @@ pub record AreReported (plan : PlanView) (s : ℕ) (reported : List (Option ℕ)
 abbrev pub output_names : PlanView → List (List ℕ)
 output_names plan = map (variable_name plan.flat) (outputs_of plan)
 
+-- the sites that report them
+abbrev pub output_homes : PlanView → List ℕ
+output_homes plan = map (home plan) (outputs_of plan)
+
 -- whether a site reports output k: whether it is the home of that variable
 abbrev pub is_home : PlanView → ℕ → Option ℕ → Bool
 is_home plan s None = false

@@ -6,7 +6,7 @@ ghost use Rattle.std.specs.Option.{ForSome};
 ghost use Rattle.luworld.specs.Needs.{IsPlan, sites_of, home, stands};
 ghost use Rattle.luworld.specs.Jobs.{knows, link_into, outputs_of, sends};
 ghost use Rattle.lusite_program.specs.Carriers.{HasSources};
-ghost use Rattle.lusite_program.specs.Programs.{clock_at_rank, part_of, ranks_of, places_of, AreNumbers, IsSiteFlow, AreSiteFlows, AreReported, Reports, output_names, role_at};
+ghost use Rattle.lusite_program.specs.Programs.{clock_at_rank, part_of, ranks_of, places_of, AreNumbers, IsSiteFlow, AreSiteFlows, AreReported, Reports, output_homes, output_names, role_at};
 ghost use Rattle.luflow.specs.Program.{flows_of};
 ghost use Rattle.luflow.specs.Variables.{is_output_of, is_output, variable_name};
 ghost use Rattle.lueval_lines.specs.Cells.{clock_of};
@@ -93,6 +93,35 @@ fn home(plan: &Plan, place: usize) -> u8
     } else {
         0
     }
+}
+
+/// The homes of the flows of these places.
+fn homes_of(alloc: Global, plan: &Plan, places: &[usize]) -> Result<Vec<u8>, AllocError>
+    ensures { IfOk result (λ v. v.items ≡ map (home plan.now) places.now) }
+{
+    let mut homes = Vec::with_capacity(alloc, places.len())?;
+    for place in places {
+        homes.push_reserved(home(plan, *place));
+    }
+    Ok(homes)
+}
+
+/// The names of the main outputs, in order of declaration.
+pub fn output_names(alloc: Global, plan: &Plan) -> Result<Row<Name>, AllocError>
+    ensures { IfOk result (λ names. names ≡ output_names plan.now) }
+{
+    let outputs = reported_places(alloc, plan.flat().variables())?;
+    let names = names_of(alloc, plan.flat(), outputs.as_slice())?;
+    Ok(Row::new(names))
+}
+
+/// The sites that report the main outputs, in order of declaration.
+pub fn output_homes(alloc: Global, plan: &Plan) -> Result<Row<u8>, AllocError>
+    ensures { IfOk result (λ homes. homes ≡ output_homes plan.now) }
+{
+    let outputs = reported_places(alloc, plan.flat().variables())?;
+    let homes = homes_of(alloc, plan, outputs.as_slice())?;
+    Ok(Row::new(homes))
 }
 
 fn part(plan: &Plan, site: u8, place: usize, from: Option<LinkNo>, to: Vec<LinkNo>) -> Part

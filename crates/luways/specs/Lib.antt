@@ -3,3 +3,4 @@ pub mod Layers
 pub mod Nils
 pub mod Sent
 pub mod Laws
+pub mod Crews

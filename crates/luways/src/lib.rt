@@ -4,10 +4,12 @@
 //! - [`laws`]: a plan has one way.
 #![tactic(auto)]
 
+mod crew;
 pub mod laws;
 mod layers;
 mod named;
 mod nils;
 mod way;
 
+pub use crew::quickest_crew;
 pub use way::{Way, way_of};

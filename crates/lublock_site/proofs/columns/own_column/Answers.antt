@@ -1,5 +1,3 @@
-use Rattle.std.proofs.Common.{rules}
-use Rattle.luflow.specs.declared.form.Flow.{Flow}
 use Rattle.lublock.proofs.Standing.{still_more}
 use Rattle.lublock_site.proofs.columns.own_column.Goals as goal
 

@@ -18,5 +18,5 @@ returns-clause-sent c =
     let n = c.offer_run-put.result in
     let msgs = c.as_slice.result.now in
     let z : Outlet = record x { tx = c.offer_run-put.new.self; sent = x.sent + n; number = c.in-Some.number } in
-    goes c.done_if.result _
+    goes c.moved_if.result _
     (sent_run c.args.flat.now x z (take n msgs) n (length-take-le n msgs c.offer_run-put.ensures.within) c.requires.may.unclosed refl refl c.in-Some.ensures refl c.offer_run-put.ensures.put)

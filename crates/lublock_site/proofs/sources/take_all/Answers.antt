@@ -7,5 +7,5 @@ returns-in-Blocked c =
 
 pub loop-n-preserved : goal.loop-n-preserved
 loop-n-preserved c = record {
-  brought = brought_on c.args.flat.now c.args.board.now c.args.source.now c.loop-n.board c.loop-n.source c.take_some.new.board c.take_some.new.source c.loop-n.invariant.brought c.in-Done.ensures;
+  brought = brought_on c.args.flat.now c.args.board.now c.args.source.now c.loop-n.board c.loop-n.source c.take_some.new.board c.take_some.new.source c.loop-n.invariant.brought c.in-Moved.ensures;
 }

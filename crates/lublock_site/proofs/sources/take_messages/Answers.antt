@@ -1,4 +1,4 @@
-use Rattle.std.proofs.Common.{rules, ◌≡◌, ◌<◌, length, List, ℤ, subst, sym, ap, refl}
+use Rattle.std.proofs.Common.{rules, ◌<◌, length, List, ℤ, subst, sym, ap, refl}
 use Rattle.lublock_kernels.specs.Rows.{Keeps}
 use Rattle.lublock_kernels.specs.Machine.{row_there}
 use Rattle.lublock_kernels.proofs.Steps.{got}

@@ -1,8 +1,17 @@
-use Rattle.std.proofs.Common.{ap, ◌∙◌}
-use Rattle.luworld.specs.Needs.{PlanView}
-use Rattle.lublock_site.proofs.Starting.{never_nil_at}
+use Rattle.std.proofs.Common.{rules, ◌≡◌, ◌∷◌, [], ◌+◌, length, Some, sym, ap, ◌∙◌, length-append}
+use Rattle.std.specs.Prelude.{slice_get}
+use Rattle.lublock_site.specs.Starts.{IsFirstOutlet}
+use Rattle.lublock_site.proofs.Pushed.{matched_more}
 use Rattle.lublock_site.proofs.start_ends.outlets_of.Goals as goal
 
-pub outlets_by-requires-clause-never : goal.outlets_by-requires-clause-never
-outlets_by-requires-clause-never c =
-    never_nil_at c.flat-flat.result.now c.args.job.now.plan.flat c.as_slice-nils.result.now (c.flat-flat.ensures.flat ∙ ap (λ (p : PlanView). p.flat) c.plan.ensures.plan) (c.are_classes.ensures.never c.if-not-are_classes.false)
+pub loop-tx-preserved : goal.loop-tx-preserved
+loop-tx-preserved c =
+    let inv = c.loop-tx.invariant in
+    let links = c.args.links.now in
+    let outlets = c.loop-tx.outlets.items in
+    let link = c.in-Some-link_at.link in
+    let at : slice_get links (length outlets) ≡ Some link = search rules in
+    record {
+      first = matched_more IsFirstOutlet links c.loop-tx.yielded c.in-Some.tx outlets c.push.new.self.items link c.in-Some-outlet_of.outlet inv.len at c.in_ok-push.ensures.items c.in-Some-outlet_of.ensures inv.first;
+      len = ap length c.in_ok-push.ensures.items ∙ length-append outlets (c.in-Some-outlet_of.outlet ∷ []) ∙ ap (λ n. n + 1) inv.len ∙ sym (length-append c.loop-tx.yielded (c.in-Some.tx ∷ []));
+    }

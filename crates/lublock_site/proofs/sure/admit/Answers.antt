@@ -1,5 +1,5 @@
-use Rattle.std.proofs.Common.{rules, List, ℕ, subst, true, Some, ◌≡◌, []}
-use Rattle.std.specs.Prelude.{slice_get, not}
+use Rattle.std.proofs.Common.{List, ℕ, subst, Some, ◌≡◌, []}
+use Rattle.std.specs.Prelude.{slice_get}
 use Rattle.lublock_site.specs.Sure.{ReadsSure}
 use Rattle.lublock.proofs.Standing.{not_false}
 use Rattle.lublock_site.proofs.Closed.{closed_more, settled_more}

@@ -1,4 +1,4 @@
-use Rattle.std.proofs.Common.{◌≡◌, ◌<◌, ℕ, true, Some}
+use Rattle.std.proofs.Common.{◌≡◌, ℕ, true, Some}
 use Rattle.std.specs.Prelude.{slice_get, ◌⊎◌}
 use Rattle.lublock_site.specs.Marks.{marked}
 use Rattle.lublock_site.proofs.sure.mark_all.Given as goal

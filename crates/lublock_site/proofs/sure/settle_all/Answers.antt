@@ -1,4 +1,4 @@
-use Rattle.std.proofs.Common.{rules, arith, ℕ, length, get_or, [], Some, sym, ap, ◌∙◌}
+use Rattle.std.proofs.Common.{rules, arith, get_or, []}
 use Rattle.std.proofs.lemmas.Option.{slice_get_within, slice_get-get_or}
 use Rattle.lublock.proofs.Standing.{still_same, still_more}
 use Rattle.lublock_site.proofs.Closed.{settled_next}

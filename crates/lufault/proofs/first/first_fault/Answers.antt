@@ -1,6 +1,6 @@
-use Rattle.std.proofs.Common.{Some, subst}
+use Rattle.std.proofs.Common.{subst}
 use Rattle.lutree.specs.Tree.{program_view}
-use Rattle.lufault.specs.Faults.{TellsFirstFault}
+use Rattle.lueval.specs.Faults.{TellsFirstFault}
 use Rattle.lufault.specs.Sites.{ReadsAsItsFlow, TellsFaults}
 use Rattle.lufault.proofs.Told.{always_found, first_told}
 use Rattle.lufault.proofs.first.first_fault.Goals as goal

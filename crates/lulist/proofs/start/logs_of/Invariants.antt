@@ -1,4 +1,4 @@
-use Rattle.std.proofs.Common.{◌≡◌, ◌≤◌, ◌+◌, ℕ, [], Some, length}
+use Rattle.std.proofs.Common.{◌≡◌, ◌≤◌, ℕ, [], Some, length}
 use Rattle.std.specs.Prelude.{slice_get, vec_capacity}
 use Rattle.lusite_program.specs.Logs.{Log}
 use Rattle.lulist.proofs.start.logs_of.Given as goal

@@ -1,13 +1,11 @@
-use Rattle.std.proofs.Common.{rules, ◌≡◌, ◌<◌, ◌+◌, ℕ, List, length, get_or, Some, refl, sym, subst, ap, ◌∙◌, arith}
-use Rattle.std.specs.Prelude.{slice_get, slice_index, All}
+use Rattle.std.proofs.Common.{◌<◌, ℕ, List, length, get_or, refl, ap, ◌∙◌, arith}
+use Rattle.std.specs.Prelude.{slice_index, All}
 use Rattle.std.proofs.lemmas.List.{length-set}
 use Rattle.std.proofs.lemmas.List.Elements.{All-get_or}
 use Rattle.std.proofs.lemmas.Option.{slice_get-get_or, slice_get_within}
 use Rattle.luflow.proofs.Solutions.{some_at}
-use Rattle.lueval_lines.specs.declared.cell.Cell.{Cell}
 use Rattle.lueval_lines.specs.declared.cell.Cell.TheVariants.{Absent}
 use Rattle.lueval_lines.specs.Cells.{newest}
-use Rattle.lulist.specs.Turns.{IsAgedTo}
 use Rattle.lulist.proofs.Instants.{aged_none, aged_more}
 use Rattle.lulist.proofs.turning.age.Goals as goal
 

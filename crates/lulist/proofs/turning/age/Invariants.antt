@@ -1,7 +1,4 @@
-use Rattle.std.proofs.Common.{◌≡◌, ◌⊎◌, ◌<◌, ℕ, length, Some}
-use Rattle.std.specs.Prelude.{slice_get}
-use Rattle.lueval_lines.specs.declared.cell.Cell.{Cell}
-use Rattle.lueval_lines.specs.Cells.{newest}
+use Rattle.std.proofs.Common.{◌≡◌, length}
 use Rattle.lulist.specs.Turns.{IsAgedTo}
 use Rattle.lulist.proofs.turning.age.Given as goal
 

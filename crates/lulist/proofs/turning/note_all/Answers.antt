@@ -1,4 +1,4 @@
-use Rattle.std.proofs.Common.{rules, ◌≡◌, ◌<◌, ◌+◌, ℕ, List, length, map, get_or, Some, refl, sym, subst, ap, ◌∙◌, arith}
+use Rattle.std.proofs.Common.{◌≡◌, ◌<◌, length, map, get_or, Some, refl, subst, ap, ◌∙◌, arith}
 use Rattle.std.specs.Prelude.{slice_get, slice_index}
 use Rattle.std.specs.Option.{option_map}
 use Rattle.std.proofs.lemmas.Option.{slice_get-get_or, slice_get-map}
@@ -6,8 +6,7 @@ use Rattle.luflow.proofs.Solutions.{some_at}
 use Rattle.luflow.specs.declared.data.Status.{Status}
 use Rattle.lueval_lines.specs.declared.cell.Cell.TheVariants.{Absent}
 use Rattle.lueval_lines.specs.Cells.{status_of}
-use Rattle.lusite_program.specs.Logs.{LogView, log_view, IsNoted}
-use Rattle.lulist.proofs.Elements.{got}
+use Rattle.lusite_program.specs.Logs.{log_view, IsNoted}
 use Rattle.lulist.proofs.Instants.{noted_none, noted_more}
 use Rattle.lulist.proofs.turning.note_all.Goals as goal
 

@@ -18,7 +18,7 @@ pub put_at-requires-clause-may : goal.put_at-requires-clause-may
 put_at-requires-clause-may c = λ o there.
     let x = c.args.self.now in
     let job = x.job.value in
-    let flat_is : c.deref-flat.result.now ≡ job.plan.flat = c.deref-flat.ensures ∙ c.requires.frame.flat in
+    let flat_is : c.deref-flat.result.now ≡ job.plan.flat = c.deref-flat.ensures ∙ c.requires.frame.code.flat in
     let here : slice_get x.outlets.items c.args.k ≡ Some c.index-outlet.result.now = got x.outlets.items c.args.k c.index-outlet.result.now (search rules) c.index-outlet.ensures in
     let same : c.index-outlet.result.now ≡ o = same_Some c.index-outlet.result.now o (sym here ∙ there) in
     let unclosed : o.closed ≡ false = ap (λ (p : Outlet). p.closed) (sym same) ∙ c.if-outlet.false in
@@ -33,7 +33,7 @@ pub returns-clause-going : goal.returns-clause-going
 returns-clause-going c =
     let x = c.args.self.now in
     let job = x.job.value in
-    let flat_is : c.deref-flat.result.now ≡ job.plan.flat = c.deref-flat.ensures ∙ c.requires.frame.flat in
+    let flat_is : c.deref-flat.result.now ≡ job.plan.flat = c.deref-flat.ensures ∙ c.requires.frame.code.flat in
     goes_map c.put_at.result (HasSentAt c.deref-flat.result.now c.args.k x.outlets.items c.put_at.new.outlets.items) (IsGoing (record x { outlets = c.put_at.new.outlets; run = c.put_at.new.run }))
     (λ has.
     let o = some_at x.outlets.items c.args.k (search rules) in

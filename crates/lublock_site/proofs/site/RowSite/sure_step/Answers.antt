@@ -11,12 +11,12 @@ pub returns-clause-going : goal.returns-clause-going
 returns-clause-going c =
     let x = c.args.self.now in
     let job = x.job.value in
-    let flat_is : c.deref-flat.result.now ≡ job.plan.flat = c.deref-flat.ensures ∙ c.requires.frame.flat in
+    let flat_is : c.deref-flat.result.now ≡ job.plan.flat = c.deref-flat.ensures ∙ c.requires.frame.code.flat in
     let own_is = c.as_slice-2.ensures.value in
     let own = c.as_slice-2.result.now in
     let flat = c.deref-flat.result.now in
-    let taken = x.frame.taken.items in
-    let part : IsPart flat (marked_part own taken) = subst (λ (f : FlatView). IsPart f (marked_part own taken)) (sym flat_is) (subst (λ (xs : List Bool). IsPart job.plan.flat (marked_part xs taken)) (sym own_is) c.requires.frame.part) in
+    let taken = x.frame.code.marks.taken.items in
+    let part : IsPart flat (marked_part own taken) = subst (λ (f : FlatView). IsPart f (marked_part own taken)) (sym flat_is) (subst (λ (xs : List Bool). IsPart job.plan.flat (marked_part xs taken)) (sym own_is) c.requires.frame.code.marks.part) in
     let was : AreSure flat own taken x.board.spans.items x.sure.items =
     subst (λ (f : FlatView). AreSure f own taken x.board.spans.items x.sure.items) (sym flat_is) (subst (λ (xs : List Bool). AreSure job.plan.flat xs taken x.board.spans.items x.sure.items) (sym own_is) c.requires.sheet.sure) in
     let now = c.admit.ensures.sure c.if-admit.false taken part was in

@@ -1,5 +1,5 @@
-use Rattle.std.proofs.Common.{rules, ◌≡◌, ◌+◌, ◌<◌, List, length, set, Some, refl, sym, ap, ◌∙◌}
-use Rattle.std.specs.Prelude.{slice_get, slice_set, true}
+use Rattle.std.proofs.Common.{rules, ◌≡◌, ◌+◌, ◌<◌, List, length, set, Some, refl, ap, ◌∙◌}
+use Rattle.std.specs.Prelude.{slice_get, true}
 use Rattle.luflow.proofs.Solutions.{some_at}
 use Rattle.lusite_program.proofs.Written.{slice_get-set_same}
 use Rattle.lulist.specs.declared.ends.Source.{Source}

@@ -35,8 +35,8 @@ close_at-requires c =
     let t = c.put_at.ensures s there in
     len_set x.outlets.items c.put_at.new.outlets.items c.args.e t.0 t.1 l
 
-pub returns-in-Done-clause-going : goal.returns-in-Done-clause-going
-returns-in-Done-clause-going c =
+pub returns-in-Moved-clause-going : goal.returns-in-Moved-clause-going
+returns-in-Moved-clause-going c =
     let x = c.args.self.now in
     let e = c.args.e in
     let s = c.index-outlet.result.now in

@@ -1,7 +1,6 @@
-use Rattle.std.proofs.Common.{rules, ◌≡◌, ◌+◌, ◌<◌, List, length, Some, None, refl, sym, subst, ap, ◌∙◌}
+use Rattle.std.proofs.Common.{rules, ◌≡◌, ◌+◌, Some, None, sym, subst, ap, ◌∙◌}
 use Rattle.std.specs.Prelude.{slice_get}
 use Rattle.std.proofs.lemmas.Option.{same_Some}
-use Rattle.luflow.specs.declared.message.Msg.{Msg}
 use Rattle.luflow.specs.declared.message.Body.TheVariants.{Value}
 use Rattle.lulink.specs.Views.{IsNextToPut}
 use Rattle.lueval_lines.specs.Cells.{held}
@@ -40,16 +39,16 @@ put_at-requires-clause-number c = λ o found.
     let same : s ≡ o = same_Some s o (sym there ∙ found) in
     c.in-Some-checked_add.ensures.1 ∙ ap (λ (p : Outlet). p.number + 1) same
 
-pub returns-in-Done-clause-going : goal.returns-in-Done-clause-going
-returns-in-Done-clause-going c =
+pub returns-in-Moved-clause-going : goal.returns-in-Moved-clause-going
+returns-in-Moved-clause-going c =
     let x = c.args.self.now in
     let s = c.index-outlet.result.now in
     let cell = c.index.result.now in
     let there : slice_get x.outlets.items c.args.e ≡ Some s = got x.outlets.items c.args.e s (search rules) c.index-outlet.ensures in
     let shows : slice_get x.shown.items s.row ≡ Some cell = got x.shown.items s.row cell (search rules) c.index.ensures in
     let holds : held cell ≡ Some c.in-Some.datum = sym c.datum_of.ensures ∙ c.in-Some.is in
-    let t = c.in-Done.ensures s there in
-    going_sent x c.requires.going c.args.e s there (search rules) (search rules) c.requires.early (search rules) cell shows c.put_at.new.outlets t.0 c.saturating_add-self-in-Done.result (record { no = s.number; body = Value c.in-Some.datum }) c.in-Some.datum holds t.1 t.2
+    let t = c.in-Moved.ensures s there in
+    going_sent x c.requires.going c.args.e s there (search rules) (search rules) c.requires.early (search rules) cell shows c.put_at.new.outlets t.0 c.saturating_add-self-in-Moved.result (record { no = s.number; body = Value c.in-Some.datum }) c.in-Some.datum holds t.1 t.2
 
 pub returns-in-Blocked-clause-going : goal.returns-in-Blocked-clause-going
 returns-in-Blocked-clause-going c =

@@ -1,4 +1,4 @@
-use Rattle.std.proofs.Common.{rules, ◌≡◌, ◌+◌, Bool, true, false, List, Some, sym, ap, ◌∙◌}
+use Rattle.std.proofs.Common.{rules, ◌≡◌, ◌+◌, true, false, List, Some, sym, ap, ◌∙◌}
 use Rattle.std.specs.Prelude.{slice_get, unwrap_or}
 use Rattle.lueval_lines.specs.declared.cell.Cell.{Cell}
 use Rattle.lueval_lines.specs.Cells.{clock_of, statuses}
@@ -12,7 +12,7 @@ returns-then-not-is_on-clause-going c =
     let x = c.args.self.now in
     let row = c.index-row.result.now in
     let s = c.index-source.result.now in
-    let here = got x.code.rows.items x.at row c.requires.within c.index-row.ensures in
+    let here = got x.flows.rows.items x.at row c.requires.within c.index-row.ensures in
     let there : slice_get x.sources.items row.source ≡ Some s = got x.sources.items row.source s (search rules) c.index-source.ensures in
     let off : false ≡ unwrap_or (clock_in (statuses x.shown.items) (clock_of row.line.clock)) false = sym c.if-not-is_on.true ∙ c.is_on.ensures ∙ ap (λ (xs : List Cell). unwrap_or (clock_in (statuses xs) (clock_of row.line.clock)) false) c.deref.ensures.value in
     going_skipped x c.requires.going c.requires.early row here row.source s there (search rules) (search rules) (search rules) c.show.new.shown c.skip_at.new.sources off c.show.ensures (c.skip_at.ensures s there)
@@ -22,7 +22,7 @@ returns-in-Value-clause-going c =
     let x = c.args.self.now in
     let row = c.index-row.result.now in
     let s = c.index-source.result.now in
-    let here = got x.code.rows.items x.at row c.requires.within c.index-row.ensures in
+    let here = got x.flows.rows.items x.at row c.requires.within c.index-row.ensures in
     let there : slice_get x.sources.items row.source ≡ Some s = got x.sources.items row.source s (search rules) c.index-source.ensures in
     let on : true ≡ unwrap_or (clock_in (statuses x.shown.items) (clock_of row.line.clock)) false = sym c.if-not-is_on.false ∙ c.is_on.ensures ∙ ap (λ (xs : List Cell). unwrap_or (clock_in (statuses xs) (clock_of row.line.clock)) false) c.deref.ensures.value in
     let t = c.in-Value.ensures s there in

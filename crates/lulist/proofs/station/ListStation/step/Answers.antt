@@ -1,6 +1,7 @@
-use Rattle.std.proofs.Common.{◌≡◌, false, sym, ap, ◌∙◌}
-use Rattle.luworld.specs.Needs.{sites_of}
-use Rattle.luworld.specs.Jobs.{JobView}
+use Rattle.std.proofs.Common.{◌≤◌, length, sym, subst, ◌∙◌}
+use Rattle.std.specs.Prelude.{vec_capacity}
+use Rattle.luworld.specs.Jobs.{outputs_of}
+use Rattle.luplace.specs.SiteInputsViews.{SiteInputsView}
 use Rattle.lulist.specs.Lists.{IsListing}
 use Rattle.lulist.proofs.Told.{goes_on, same_at}
 use Rattle.lulist.proofs.station.ListStation.step.Goals as goal
@@ -8,13 +9,12 @@ use Rattle.lulist.proofs.station.ListStation.step.Goals as goal
 pub invariant_of-self : goal.invariant_of-self
 invariant_of-self c =
     let x = c.self.inside.inner in
-    let y = c.go-tried.new.self in
-    let same = c.go-tried.ensures.same in
+    let y = c.go-turn.new.self in
+    let same = c.go-turn.ensures.same in
     let inv = c.self.invariant in
     record {
-      at = same_at x y same inv.at;
-      flat = inv.flat ∙ ap (λ (j : JobView). j.plan.flat) (sym same.0);
-      sites = inv.sites ∙ ap (λ (j : JobView). sites_of j.plan) (sym same.0);
+      at = same_at x.inputs y.inputs same inv.at;
       none = inv.none;
-      going = λ open'. goes_on c.go-tried.result (IsListing y) (sym c.is_over-self-inside.ensures ∙ open') c.go-tried.ensures.going;
+      room = subst (λ (i : SiteInputsView). length (outputs_of i.job.plan) ≤ vec_capacity c.self.inside.outputs) (sym same) inv.room;
+      going = λ open'. goes_on c.go-turn.result (IsListing y) (sym c.is_over-self-inside.ensures ∙ open') c.go-turn.ensures.going;
     }

@@ -1,4 +1,0 @@
-mod Reported
-mod Collected
-mod Crosses
-mod Unused

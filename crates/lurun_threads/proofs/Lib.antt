@@ -1,5 +1,0 @@
-pub mod Acts
-mod Moves
-pub mod Dealing
-mod Crosses
-mod Places
