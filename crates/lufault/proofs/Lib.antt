@@ -10,4 +10,6 @@ pub mod Passed
 pub mod Sought
 pub mod Following
 pub mod Stepped
-pub mod Told
+pub mod FirstTold
+pub mod Signing
+pub mod Wording

@@ -6,3 +6,6 @@ pub mod Passing
 pub mod Standing
 pub mod Steps
 pub mod First
+pub mod Signs
+pub mod Words
+pub mod Told

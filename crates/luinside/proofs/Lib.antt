@@ -8,3 +8,8 @@ mod Complete
 pub mod Meaning
 mod Passing
 mod Low
+mod Calling
+mod Paths
+mod ListedVariables
+mod Taken
+pub mod Deep

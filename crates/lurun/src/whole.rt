@@ -35,6 +35,29 @@ impl Drop for Whole {
     }
 }
 
+impl Whole {
+    /// The report of a site that leaves these rows of outputs; none where it leaves none, since it hasn't done its whole part.
+    pub fn left(self, site: u8, rows: Option<Vec<Vec<Status>>>) -> Option<SiteReport>
+        requires of { IsWholeOf (record { job = self.job.value; site = site }) self }
+        requires sound { IfSome rows (λ _. IsSoundAt self.job.value site) }
+        requires are { IfSome rows
+            (λ x. AreWholeOutputs self.job.value site (map (λ row. row.items) x.items)) }
+        ensures { IfSome result (λ r. r ≡ whole_site self.job.value site) }
+    {
+        let rows = rows?;
+        let Self {
+            job,
+            sites,
+            instants,
+            names,
+            homes,
+        } = self;
+        Some(SiteReport::whole(
+            job, site, sites, instants, names, homes, rows,
+        ))
+    }
+}
+
 /// What of a job the report of a site names.
 pub fn whole_of(alloc: Global, job: &Job, site: u8) -> Result<Whole, AllocError>
     requires { site < sites_of job.now.plan }
@@ -48,25 +71,4 @@ pub fn whole_of(alloc: Global, job: &Job, site: u8) -> Result<Whole, AllocError>
         names: output_names(alloc, job.plan())?,
         homes: output_homes(alloc, job.plan())?,
     })
-}
-
-/// The report of a site that leaves these rows of outputs; none where it leaves none, since it hasn't done its whole part.
-pub fn left_of(whole: Whole, site: u8, rows: Option<Vec<Vec<Status>>>) -> Option<SiteReport>
-    requires of { IsWholeOf (record { job = whole.job.value; site = site }) whole }
-    requires sound { IfSome rows (λ _. IsSoundAt whole.job.value site) }
-    requires are { IfSome rows
-        (λ x. AreWholeOutputs whole.job.value site (map (λ row. row.items) x.items)) }
-    ensures { IfSome result (λ r. r ≡ whole_site whole.job.value site) }
-{
-    let rows = rows?;
-    let Whole {
-        job,
-        sites,
-        instants,
-        names,
-        homes,
-    } = whole;
-    Some(SiteReport::whole(
-        job, site, sites, instants, names, homes, rows,
-    ))
 }

@@ -15,8 +15,8 @@ use Rattle.luflow.proofs.Solutions.{all_at}
 use Rattle.lusource.specs.Agreement.{IsFlowOf}
 use Rattle.lucore.specs.Result.{IsFlatOf}
 use Rattle.lueval_lines.specs.Outputs.{outputs_in, columns_in}
-use Rattle.ludeep.specs.declared.variables.DeepVariable.{DeepVariable}
-use Rattle.ludeep.specs.Variables.{InstanceVariable, all_variables, deep_variable, AreDeepVariables, ListsDeepVariables}
+use Rattle.luinside.specs.declared.variables.DeepVariable.{DeepVariable}
+use Rattle.luinside.specs.Variables.{InstanceVariable, all_variables, deep_variable, AreDeepVariables, ListsDeepVariables}
 use Rattle.lusdist_shell.specs.declared.request.EvalRequest.{EvalRequest}
 use Rattle.lusdist_call.specs.Shown.{main_from, listed_from, listed_names, names_of, kinds_of, listed_kinds, AreShownIf, IsListFor, IsListOf}
 

@@ -28,9 +28,9 @@ use Rattle.lutab.specs.Table.{IsTextOf, is_too_long}
 use Rattle.lusdist_shell.specs.declared.request.EvalRequest.{EvalRequest}
 use Rattle.lusdist_call.specs.declared.call_error.CallError.{CallError}
 use Rattle.lusdist_call.specs.declared.call_error.CallError.TheVariants.{CannotRead, CannotWrite, NotAscii, Syntax, Rules, Flat, Place, Table as BadTable, Schedule, Fault, LinkLost, NoThread, OutOfMemory, Mistaken}
-use Rattle.ludeep.specs.declared.variables.DeepVariable.{DeepVariable}
-use Rattle.ludeep.specs.Columns.{AreFlowColumns}
-use Rattle.ludeep.specs.Variables.{deep_variable}
+use Rattle.luinside.specs.declared.variables.DeepVariable.{DeepVariable}
+use Rattle.luinside.specs.Columns.{AreFlowColumns}
+use Rattle.luinside.specs.Variables.{deep_variable}
 use Rattle.lusdist_call.specs.Asked.{IsFlatAt, IsTableAt}
 use Rattle.lusdist_call.specs.Shown.{IsListFor, IsListOf, IsShownAt, kinds_of, listed_from, listed_kinds, listed_names}
 use Rattle.lusdist_answers.proofs.Lists.{kinds_same, listed_inside, names_same, output_at, output_names, variable_at, variable_names}

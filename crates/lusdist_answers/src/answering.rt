@@ -25,7 +25,7 @@ use crate::planning::{plan_text, planned};
 use crate::running::run_table;
 use crate::sources::{flat_at, flattened, inputs_at, program_of, shown_at};
 use crate::starting::start_text;
-use ludeep::DeepVariable;
+use luinside::DeepVariable;
 use luexplain::of_warnings;
 use luflow::{Flat, Inputs};
 use luplace::Plan;

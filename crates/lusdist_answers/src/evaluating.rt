@@ -16,7 +16,7 @@ use crate::shown::kinds_in;
 use lubase::Name;
 use lublock::block_outputs;
 use luchart::{chronogram, cut, dump};
-use ludeep::{DeepVariable, deep_columns};
+use luinside::{DeepVariable, deep_columns};
 use lueval::{EvalError, whole_columns};
 use luflow::{Enum, FaultKind, Flat, Inputs, Outputs};
 use lusdist_call::{CallError, Refusal, Reply, column_violations};

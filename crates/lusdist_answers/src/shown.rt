@@ -6,7 +6,7 @@ ghost use Rattle.luflow.specs.Variables.{is_output};
 ghost use Rattle.lucore.specs.Result.{IsFlatOf};
 ghost use Rattle.lusdist_call.specs.Shown.{IsListFor, IsListOf, listed_from, listed_kinds};
 
-use ludeep::{DeepVariable, deep_variables};
+use luinside::{DeepVariable, deep_variables};
 use luflow::{Flat, Variable};
 use lusdist_shell::EvalRequest;
 use lustat::Checked;

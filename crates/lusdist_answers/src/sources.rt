@@ -23,7 +23,7 @@ ghost use Rattle.lusdist_call.specs.declared.call_error.CallError.TheVariants.{O
 
 use crate::shown::shown_variables;
 use lucore::flatten;
-use ludeep::DeepVariable;
+use luinside::DeepVariable;
 use luflow::{Flat, Inputs};
 use luplace::{Job, Plan};
 use luplace_file::{PlaceError, read_place};

@@ -28,8 +28,8 @@ use Rattle.lusdist_shell.specs.declared.request.EvalRequest.{EvalRequest}
 use Rattle.lusdist_call.specs.Files.{dump_for, wave_path}
 use Rattle.lusdist_call.specs.Mistakes.{mistake_in}
 use Rattle.clap.specs.Walk.{texts}
-use Rattle.ludeep.specs.declared.variables.DeepVariable.{DeepVariable}
-use Rattle.ludeep.specs.Variables.{InstanceVariable}
+use Rattle.luinside.specs.declared.variables.DeepVariable.{DeepVariable}
+use Rattle.luinside.specs.Variables.{InstanceVariable}
 use Rattle.luchart.specs.Signals.{signals_of}
 use Rattle.lusdist_call.specs.Shown.{AreShown, IsListOf, kinds_of, listed_kinds, listed_names, names_of}
 use Rattle.lusdist_call.specs.Violations.{unobserved, violations}

@@ -12,9 +12,9 @@ use Rattle.lusource.specs.Agreement.{Agrees}
 use Rattle.lusource.specs.Source.{SourceStreams, IsSourceSolution}
 use Rattle.luinside.specs.declared.listing.Instance.{Instance}
 use Rattle.luinside.specs.Listed.{AreInstances}
-use Rattle.ludeep.specs.declared.variables.DeepVariable.{DeepVariable}
-use Rattle.ludeep.specs.Names.{path_name}
-use Rattle.ludeep.specs.Variables.{InstanceVariable, all_variables, deep_variable}
+use Rattle.luinside.specs.declared.variables.DeepVariable.{DeepVariable}
+use Rattle.luinside.specs.Names.{path_name}
+use Rattle.luinside.specs.Variables.{InstanceVariable, all_variables, deep_variable}
 use Rattle.lusdist_shell.specs.declared.request.EvalRequest.{EvalRequest}
 use Rattle.lusdist_shell.specs.Files.{FileFacts}
 use Rattle.lusdist_call.specs.Asked.{HasFlat}

@@ -4,99 +4,75 @@
 ghost use Rattle.std.specs.Prelude.{◌≡◌, ◌<◌, ℕ, IfOk, Some, slice_get};
 ghost use Rattle.luworld.specs.Needs.{sites_of};
 ghost use Rattle.lulink.specs.Lists.{list_of};
-ghost use Rattle.lulink.specs.Views.{ReceiverView, SenderView};
-ghost use Rattle.lublock_site.specs.RowStations.{IsUnusedReceiver, IsUnusedSender};
+ghost use Rattle.lulink.specs.Views.{IsUnusedReceiver, IsUnusedSender, ReceiverView, SenderView};
 
+use crate::barrier::Barrier;
 use crate::driven::Feeder;
 use crate::lines::{number, word};
 use crate::parties::{lists_of, put_output, put_taken};
 use crate::runs::put_outputs;
-use lublock_site::flats::flat_copy;
+use lublock_site::{RowCode, RowStation};
+use luflow::{Flat, Status};
 use lulink::{Msg, Rx, Tx, open_link};
 use luplace::Job;
-use lurun::Gate;
-use lurun_rows::{RowReport, RowStation, Went, list_stations, row_stations, run_rows};
+use lurun::{Engine, Station, run_crew, stations_by};
+use luworld::Turn;
 use std::alloc::{AllocError, Global};
 use std::rt::Clock;
-use std::sync::atomic::{AtomicU64, Ordering};
-use std::sync::{Arc, Wait};
+use std::sync::Wait;
 use std::thread::Threads;
 use std::{io, thread};
 
 /// How often a loop looks before it counts as a failure.
 const LOOKS: u64 = 10_000_000;
 
-/// A gate at which each of two sites waits, where they are to meet, the first time that it is named, until the other one is named too.
-#[derive(Drop)]
-struct Meeting {
-    meet: bool,
-    first: AtomicU64,
-    second: AtomicU64,
-    failed: AtomicU64,
+/// The last of some stations.
+fn last_of(stations: Option<Vec<Station>>) -> Option<Station> {
+    stations?.pop()
 }
 
-/// Waits until a site has been named. False where it isn't.
-fn is_reported(count: &AtomicU64) -> bool {
-    for _ in 0..LOOKS {
-        if count.load(Ordering::SeqCst) > 0 {
-            return true;
-        }
-        thread::yield_now();
+/// The stations of a job that a line asks for, in blocks or once an instant: all, `none`, that of the `first` site, or `strangers`: both, but of
+/// two sets of stations, so that the other ends of their links are dropped. None where a site can't go on so.
+fn chosen(alloc: Global, job: &Job, line: &str) -> Result<Option<Vec<Station>>, AllocError> {
+    let engine = match word(line, 0) {
+        "lists" => Engine::Lists,
+        _ => Engine::Rows,
+    };
+    let Some(mut chosen) = stations_by(alloc, job, engine)? else {
+        return Ok(None);
+    };
+    let part = word(line, 5);
+    if part == "first" || part == "none" || part == "strangers" {
+        drop(chosen.pop());
     }
-    false
-}
-
-impl Gate for Meeting {
-    fn before(&self, _site: u8, _step: u64) {}
-
-    fn at(&self, site: u8, _instant: u32) {
-        let (own, other) = if site == 0 {
-            (&self.first, &self.second)
-        } else {
-            (&self.second, &self.first)
-        };
-        if own.fetch_add(1, Ordering::SeqCst) == 0 && self.meet && !is_reported(other) {
-            self.failed.store(1, Ordering::SeqCst);
+    if part == "none" {
+        drop(chosen.pop());
+    }
+    if part == "strangers" {
+        if let Some(other) = last_of(stations_by(alloc, job, engine)?) {
+            chosen.push(other)?;
         }
     }
+    Ok(Some(chosen))
 }
 
-/// Writes what a job comes to whose stations are all there, `none` of them or the `first` site's alone, by so many workers; where the part is
-/// `meet`, each site's first block waits for the other's.
+/// Writes what the stations answer that a line asks for, by so many workers; where the part is `meet`, each site's first block waits for the
+/// other's.
 fn put_crew<R: Threads + Wait + Clock + Sync>(
     threads: &R,
     rt: &HostRuntime,
     job: &Job,
     line: &str,
 ) -> io::Result<()> {
-    let part = word(line, 5);
-    let made = if word(line, 0) == "lists" {
-        list_stations(rt.alloc(), job)?
-    } else {
-        row_stations(rt.alloc(), job)?
-    };
-    let Some(mut stations) = made else {
+    let Some(stations) = chosen(rt.alloc(), job, line)? else {
         return println!(rt; "= item by item");
     };
-    if part == "first" || part == "none" {
-        drop(stations.pop());
-    }
-    if part == "none" {
-        drop(stations.pop());
-    }
-    let gate = Meeting {
-        meet: part == "meet",
-        first: AtomicU64::new(0),
-        second: AtomicU64::new(0),
-        failed: AtomicU64::new(0),
-    };
+    let part = word(line, 5);
+    let gate = Barrier::new(part);
     let workers = u8::try_from(number(line, 4)).unwrap_or(u8::MAX).max(1);
-    match run_rows(threads, rt.alloc(), stations, workers, &gate) {
-        Ok(Some(outputs)) => put_outputs(rt, job, Ok(outputs))?,
-        Ok(None) => println!(rt; "= no outputs")?,
-        Err(error) => println!(rt; "! {error}")?,
-    }
-    if gate.failed.load(Ordering::SeqCst) == 0 {
+    let outputs = run_crew(threads, rt.alloc(), stations, workers, &gate);
+    put_outputs(rt, job, outputs)?;
+    if part != "meet" || gate.was_met() {
         return Ok(());
     }
     println!(rt; "! the gate has failed")
@@ -160,8 +136,12 @@ fn station_of(
     requires receivers { (k : ℕ) (t : ReceiverView) → slice_get rxs.items k ≡ Some t
         → IsUnusedReceiver job.now t }
 {
-    let flat = Arc::new(alloc, flat_copy(alloc, job.plan().flat())?)?;
-    RowStation::new(alloc, job, site, flat, txs, rxs)
+    let instants = job.instants() as usize;
+    let Some(code) = RowCode::new(alloc, job.plan(), site, instants)? else {
+        return Ok(None);
+    };
+    let inputs = job.inputs_at(alloc, site)?;
+    RowStation::new(alloc, code, inputs, txs, rxs)
 }
 
 /// The station of the first site, which sends over the first two links, and the receivers of these.
@@ -207,15 +187,15 @@ fn receiving<'l>(
     }
 }
 
-/// Goes on until the station is over; what it reports.
-fn gone_on<R: Wait>(rt: &R, mut station: RowStation) -> Option<RowReport> {
+/// Goes on until the station is over; a row for each output, where it has ended.
+fn gone_on<R: Wait>(rt: &R, mut station: RowStation) -> Option<Vec<Vec<Status>>> {
     for _ in rt.forever() {
         match station.go() {
-            Went::Over => break,
-            Went::Moved | Went::Blocked => thread::yield_now(),
+            Turn::Over => break,
+            Turn::Moved | Turn::Blocked => thread::yield_now(),
         }
     }
-    station.report()
+    station.outputs()
 }
 
 /// Takes what is there, behind what was taken before. How many messages that is.
@@ -260,16 +240,34 @@ fn fed(feeders: (Feeder<'_>, Feeder<'_>)) -> bool {
     false
 }
 
-/// Writes what a station reports: the outputs, by the numbers of their variables.
-fn put_reported(rt: &HostRuntime, report: Option<RowReport>) -> io::Result<()> {
-    let Some(report) = report else {
+/// Writes an output by the number of its variable, where it has statuses.
+fn put_row(rt: &HostRuntime, variable: usize, row: &[Status]) -> io::Result<()> {
+    if row.is_empty() {
+        return Ok(());
+    }
+    put_output(rt, variable, row)
+}
+
+/// Writes the outputs that a station has, of a row for each output of the program.
+fn put_outputs_of(rt: &HostRuntime, flat: &Flat, rows: &[Vec<Status>]) -> io::Result<()> {
+    let mut left = rows.iter();
+    for (number, variable) in flat.variables().iter().enumerate() {
+        if variable.role.is_output() {
+            if let Some(row) = left.next() {
+                put_row(rt, number, row)?;
+            }
+        }
+    }
+    Ok(())
+}
+
+/// Writes how a station stands, and the outputs that it has.
+fn put_reported(rt: &HostRuntime, flat: &Flat, rows: &Option<Vec<Vec<Status>>>) -> io::Result<()> {
+    let Some(rows) = rows else {
         return println!(rt; "= cut");
     };
     println!(rt; "= ended")?;
-    for reported in report.into_outputs() {
-        put_output(rt, reported.0, &reported.1)?;
-    }
-    Ok(())
+    put_outputs_of(rt, flat, rows)
 }
 
 /// Runs the station of the first site, and writes what it reports and what came from its two links.
@@ -285,12 +283,12 @@ fn put_sender<R: Threads + Wait + Sync>(threads: &R, rt: &HostRuntime, job: &Job
     let Some((station, ends)) = sending(alloc, job)? else {
         return println!(rt; "! no station");
     };
-    let (report, (first, second)) = thread::join(
+    let (rows, (first, second)) = thread::join(
         threads,
         move || gone_on(threads, station),
         move || taken_from(threads, ends, rooms),
     );
-    put_reported(rt, report)?;
+    put_reported(rt, job.plan().flat(), &rows)?;
     put_taken(rt, &first, first.len())?;
     put_taken(rt, &second, second.len())
 }
@@ -307,12 +305,12 @@ fn put_receiver<R: Threads + Wait + Sync>(
     let Some((station, feeders)) = receiving(rt.alloc(), job, &first, &second)? else {
         return println!(rt; "! no station");
     };
-    let (report, all) = thread::join(
+    let (rows, all) = thread::join(
         threads,
         move || gone_on(threads, station),
         move || fed(feeders),
     );
-    put_reported(rt, report)?;
+    put_reported(rt, job.plan().flat(), &rows)?;
     println!(rt;
         "{}",
         if all {

@@ -7,6 +7,7 @@ use crate::links::put_passed;
 use crate::parties::put_driven;
 use crate::runs::{put_outputs, put_run};
 use crate::schedules::all_agree_in_ring;
+use crate::whole::put_whole;
 use crate::worlds::put_left;
 use luplace::Job;
 use lurun::collect;
@@ -36,6 +37,7 @@ fn put_of_job<R: Threads + Wait + Clock + Sync>(
     match word(line, 0) {
         "collect" => put_outputs(rt, job, collect(rt.alloc(), Vec::new(rt.alloc()))),
         "drive" => put_driven(threads, rt, job, line),
+        "job" => put_whole(threads, rt, job, line),
         "left" => put_left(rt, job, line),
         "rows" | "lists" => put_rows(threads, rt, job, line),
         _ => put_run(threads, rt, job, line),

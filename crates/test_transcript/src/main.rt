@@ -3,6 +3,7 @@
 //! answers; README.md and LINES.md have the forms of its lines.
 #![tactic(auto)]
 
+mod barrier;
 mod blocks;
 mod counters;
 mod driven;
@@ -18,6 +19,7 @@ mod printing;
 mod runs;
 mod schedules;
 mod tries;
+mod whole;
 mod worlds;
 
 use crate::folder::Folder;

@@ -2,11 +2,13 @@
 
 use crate::gates::{Seen, Watch};
 use crate::lines::{number, word};
+use luflow::Outputs;
 use luplace::Job;
-use lurun::{Outputs, RunError, Station, run_crew, run_threads, stations};
+use lurun::{RunError, Station, run_crew, run_threads, stations};
 use lutab::write_outputs;
 use std::alloc::{AllocError, Global};
 use std::io;
+use std::rt::Clock;
 use std::sync::Wait;
 use std::sync::atomic::Ordering;
 use std::thread::Threads;
@@ -45,7 +47,7 @@ pub fn put_outputs(
 }
 
 /// Runs stations, each by a thread of its own, or by so many workers, and writes what they answer.
-fn put_answer<R: Threads + Wait + Sync>(
+fn put_answer<R: Threads + Wait + Clock + Sync>(
     threads: &R,
     rt: &HostRuntime,
     job: &Job,
@@ -62,7 +64,7 @@ fn put_answer<R: Threads + Wait + Sync>(
 }
 
 /// Runs the stations of a job of two sites one after the other, each alone.
-fn put_each<R: Threads + Wait + Sync>(
+fn put_each<R: Threads + Wait + Clock + Sync>(
     threads: &R,
     rt: &HostRuntime,
     job: &Job,
@@ -86,7 +88,7 @@ fn put_seen(rt: &HostRuntime, seen: &Seen) -> io::Result<()> {
 }
 
 /// Runs the stations that a line asks for, under a gate, and writes what they answer.
-fn put_chosen<R: Threads + Wait + Sync>(
+fn put_chosen<R: Threads + Wait + Clock + Sync>(
     threads: &R,
     rt: &HostRuntime,
     job: &Job,
@@ -105,7 +107,7 @@ fn put_chosen<R: Threads + Wait + Sync>(
 
 /// Runs the stations that a line asks for, by its workers and under its gate, and writes what they answer, how many items each of the
 /// first two sites came to, and how far it was.
-pub fn put_run<R: Threads + Wait + Sync>(
+pub fn put_run<R: Threads + Wait + Clock + Sync>(
     threads: &R,
     rt: &HostRuntime,
     job: &Job,

@@ -2,7 +2,7 @@ use Rattle.std.proofs.Common.{subst}
 use Rattle.lutree.specs.Tree.{program_view}
 use Rattle.lueval.specs.Faults.{TellsFirstFault}
 use Rattle.lufault.specs.Sites.{ReadsAsItsFlow, TellsFaults}
-use Rattle.lufault.proofs.Told.{always_found, first_told}
+use Rattle.lufault.proofs.FirstTold.{always_found, first_told}
 use Rattle.lufault.proofs.first.first_fault.Goals as goal
 
 pub unreachable-requires : goal.unreachable-requires

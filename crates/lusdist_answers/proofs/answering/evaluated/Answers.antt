@@ -1,5 +1,5 @@
 use Rattle.std.proofs.Common.{List, subst, sym}
-use Rattle.ludeep.specs.declared.variables.DeepVariable.{DeepVariable}
+use Rattle.luinside.specs.declared.variables.DeepVariable.{DeepVariable}
 use Rattle.lusdist_call.specs.Evaluated.{IsPosedWith}
 use Rattle.std.proofs.lemmas.Result.{IfErr-weaker, err_from_is_err_and}
 use Rattle.lusdist_answers.proofs.Outcomes.{eval_stop, evaluated_before, evaluated_reply, none_dumped}

@@ -2,7 +2,7 @@ use Rattle.std.proofs.Common.{◌≡◌, ◌+◌, ◌++◌, ◌∷◌, [], cond,
 use Rattle.std.proofs.lemmas.List.{drop_more, drop_all}
 use Rattle.luflow.specs.Variables.{is_output}
 use Rattle.luflow.specs.declared.variable.Variable.{Variable}
-use Rattle.ludeep.specs.declared.variables.DeepVariable.{DeepVariable}
+use Rattle.luinside.specs.declared.variables.DeepVariable.{DeepVariable}
 use Rattle.lusdist_call.specs.Shown.{listed_from}
 use Rattle.lusdist_answers.proofs.Lists.{one_listed}
 use Rattle.lusdist_answers.proofs.shown.listed.Goals as goal

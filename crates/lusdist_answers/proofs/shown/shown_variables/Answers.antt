@@ -3,7 +3,7 @@ use Rattle.std.proofs.lemmas.Result.{IfOk-weaker}
 use Rattle.luflow.specs.declared.variable.Variable.{Variable}
 use Rattle.lutree.specs.Tree.{program_view}
 use Rattle.lucore.specs.Result.{IsFlatOf}
-use Rattle.ludeep.specs.Variables.{ListsDeepVariables}
+use Rattle.luinside.specs.Variables.{ListsDeepVariables}
 use Rattle.lusdist_call.specs.Shown.{listed_from}
 use Rattle.lusdist_answers.proofs.Lists.{deep_can, deep_list, main_can, main_list}
 use Rattle.lusdist_answers.proofs.shown.shown_variables.Goals as goal

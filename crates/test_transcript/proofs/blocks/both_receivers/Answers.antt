@@ -1,6 +1,5 @@
 use Rattle.std.proofs.Common.{List, [], ◌∷◌, ◌++◌, ap, ◌∙◌}
-use Rattle.lulink.specs.Views.{ReceiverView}
-use Rattle.lublock_site.specs.RowStations.{IsUnusedReceiver}
+use Rattle.lulink.specs.Views.{IsUnusedReceiver, ReceiverView}
 use Rattle.test_transcript.proofs.Ends.{two_each}
 use Rattle.test_transcript.proofs.blocks.both_receivers.Goals as goal
 

@@ -1,6 +1,5 @@
 use Rattle.std.proofs.Common.{List, [], ◌∷◌, ◌++◌, ap, ◌∙◌}
-use Rattle.lulink.specs.Views.{SenderView}
-use Rattle.lublock_site.specs.RowStations.{IsUnusedSender}
+use Rattle.lulink.specs.Views.{IsUnusedSender, SenderView}
 use Rattle.test_transcript.proofs.Ends.{two_each}
 use Rattle.test_transcript.proofs.blocks.both_senders.Goals as goal
 

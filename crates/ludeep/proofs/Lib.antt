@@ -1,5 +1,0 @@
-mod Calling
-mod Paths
-mod Listing
-mod Taken
-pub mod Deep

@@ -1,5 +1,0 @@
-use Rattle.ludeep.proofs.Deep as deep
-use Rattle.ludeep.proofs.laws.deep_columns_law.Goals as goal
-
-pub returns : goal.returns
-returns c = deep.deep_columns

@@ -1,4 +1,0 @@
-pub mod Names
-pub mod Variables
-pub mod Columns
-pub mod Passing

@@ -1,2 +1,0 @@
-pub mod Signing
-pub mod Wording

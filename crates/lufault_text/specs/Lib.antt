@@ -1,3 +1,0 @@
-pub mod Signs
-pub mod Words
-pub mod Told
