@@ -12,8 +12,8 @@ ghost use Rattle.luinside.specs.Variables.{ListsDeepVariables};
 
 use crate::names::{joined, steps_of};
 use crate::way::{Level, prefix_of};
-use luflow::{Role, Variable};
 use crate::{Instance, instances};
+use luflow::{Role, Variable};
 use lustat::Checked;
 use lutree::{Declaration, Node, Program};
 use std::alloc::{AllocError, Global};

@@ -191,9 +191,19 @@ items_send = search (sendable, inside_items)
 
 whole_field_send : IsSend Whole.the_field.row
 whole_field_send =
-    struct_send (shape Whole.the_type)
-    (search sendable, (search sendable, (search sendable, (search (sendable, crosses, row.the_send, name.the_send) depth 12,
-    (search (sendable, crosses, row.the_send) depth 12, tt)))))
+    struct_send (shape Whole.the_type) (
+      search sendable,
+      (
+        search sendable,
+        (
+          search sendable,
+          (
+            search (sendable, crosses, row.the_send, name.the_send) depth 12,
+            (search (sendable, crosses, row.the_send) depth 12, tt),
+          ),
+        ),
+      ),
+    )
 
 -- a station, however it goes on
 going_send : IsSend Going.the_row

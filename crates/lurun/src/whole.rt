@@ -7,9 +7,9 @@ ghost use Rattle.lusite.specs.Sites.{whole_site};
 ghost use Rattle.lurun.specs.Inside.{IsWholeOf};
 
 use lubase::{Name, Row};
+use luflow::Status;
 use luplace::Job;
 use lusite::SiteReport;
-use luflow::Status;
 use lusite_program::{output_homes, output_names};
 use std::alloc::{AllocError, Global};
 use std::snapshot::Snapshot;
@@ -52,9 +52,7 @@ impl Whole {
             names,
             homes,
         } = self;
-        Some(SiteReport::whole(
-            job, site, sites, instants, names, homes, rows,
-        ))
+        Some(SiteReport::whole(job, site, sites, instants, names, homes, rows))
     }
 }
 

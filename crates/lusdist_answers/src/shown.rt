@@ -6,8 +6,8 @@ ghost use Rattle.luflow.specs.Variables.{is_output};
 ghost use Rattle.lucore.specs.Result.{IsFlatOf};
 ghost use Rattle.lusdist_call.specs.Shown.{IsListFor, IsListOf, listed_from, listed_kinds};
 
-use luinside::{DeepVariable, deep_variables};
 use luflow::{Flat, Variable};
+use luinside::{DeepVariable, deep_variables};
 use lusdist_shell::EvalRequest;
 use lustat::Checked;
 use lutree::Kind;

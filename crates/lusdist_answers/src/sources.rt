@@ -23,8 +23,8 @@ ghost use Rattle.lusdist_call.specs.declared.call_error.CallError.TheVariants.{O
 
 use crate::shown::shown_variables;
 use lucore::flatten;
-use luinside::DeepVariable;
 use luflow::{Flat, Inputs};
+use luinside::DeepVariable;
 use luplace::{Job, Plan};
 use luplace_file::{PlaceError, read_place};
 use lusdist_call::{CallError, read};

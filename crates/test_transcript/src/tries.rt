@@ -16,6 +16,7 @@ const CAPACITIES: &[u16] = &[1, 2, 16];
 /// Who serves the sites of a run.
 const CREWS: &[&str] = &[
     "",
+    " --workers auto",
     " --workers 1",
     " --workers 2",
     " --workers 3",
