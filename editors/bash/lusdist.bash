@@ -60,7 +60,7 @@ _lusdist() {
             endings=(lus toml csv)
             case $before in
                 --main) COMPREPLY=(); return ;;
-                --workers) COMPREPLY=($(compgen -W "$(seq 1 16)" -- "$word")); return ;;
+                --workers) COMPREPLY=($(compgen -W "auto $(seq 1 16)" -- "$word")); return ;;
                 --vcd) COMPREPLY=($(compgen -f -- "$word")); return ;;
                 --always) COMPREPLY=(); return ;;
             esac
