@@ -30,6 +30,7 @@ use luflow::{Flat, Inputs};
 use luinside::DeepVariable;
 use luplace::Plan;
 use luplace_report::report_idle;
+use lurun::Workers;
 use lusdist_call::{CallError, Mistake, Refusal, Reply, mistake_in, observe, read, workers_in};
 use lusdist_shell::{
     CheckRequest, EvalRequest, Files, NewRequest, PlanRequest, Progress, RunRequest,
