@@ -6,7 +6,7 @@ use Rattle.lusdist_call.specs.Stopped.IsRunRefused.{run_mistaken, run_stopped}
 use Rattle.lusdist_answers.proofs.answering.run_answer.Goals as goal
 
 pub ran-requires-clause-meant : goal.ran-requires-clause-meant
-ran-requires-clause-meant g c = ap unclear_workers (sym c.workers_in.ensures.asked ∙ c.in-Some.is)
+ran-requires-clause-meant g c κs within = ap unclear_workers (sym c.workers_in.ensures.asked ∙ c.in-Some.is)
 
 pub returns-in-Some-clause-stopped : goal.returns-in-Some-clause-stopped
 returns-in-Some-clause-stopped g c =
