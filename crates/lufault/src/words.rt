@@ -10,8 +10,8 @@ ghost use Rattle.lusource.specs.Instances.{called_in};
 ghost use Rattle.luflow.specs.declared.data.Datum.TheVariants.{Nil};
 ghost use Rattle.lufault.specs.Words as spec;
 
-use lubase::Name;
 use crate::FoundFault;
+use lubase::Name;
 use luflow::{Datum, Enum, Flat, Inputs, Values, Variable, names_of};
 use luinside::call_at;
 use lustat_rules::Catalog;
