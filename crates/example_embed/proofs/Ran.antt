@@ -8,7 +8,7 @@ use Rattle.example_embed.specs.declared.design.TheConstants.{DESIGN, PLACEMENT, 
 use Rattle.example_embed.specs.Texts.{text_of}
 use Rattle.example_embed.specs.Ran.{IsRunOfDesign, IsTableOfRun}
 
-abbrev IsFound : JobView → Type 0
+abbrev pub IsFound : JobView → Type 0
 IsFound job = IsJobFor (λ path given. given ≡ text_of path) (codes "design") (codes "placement") (codes "table") (codes "main") job
 
 -- what stands in the three files is what the texts are
