@@ -6,3 +6,4 @@ pub mod States
 pub mod Reach
 pub mod ReachStates
 pub mod Places
+pub mod Limits

@@ -1,4 +1,4 @@
-//! The bases of the distributor: plain data that contracts compare, names in a row, and directed graphs.
+//! The bases of the distributor: plain data that contracts compare, names in a row, directed graphs, and the limits.
 //!
 //! # Plain data
 //!
@@ -34,10 +34,16 @@
 //!
 //! In an order ([`Order::Sorted`]) the places serve as ranks: an edge leads to a lesser place (`IsOrder`, `behind`). So
 //! what is computed along edges can be computed in that order.
+//!
+//! # Limits
+//!
+//! The limits of the product, each named once: in code by [`limits`], in contracts by `specs/Limits.antt`. A law
+//! ([`laws::limits_law`]) says that each of them is the number of its namesake.
 #![tactic(auto)]
 
 mod groups;
 pub mod laws;
+pub mod limits;
 mod link;
 mod name;
 mod number;

@@ -1,6 +1,6 @@
 -- What flattening gives.
 use Rattle.std.specs.Prelude.{◌≡◌, ℕ, ◌<◌, ◌≤◌, List, Some, slice_get, slice_index}
-use Rattle.lulimits.specs.Limits.{most_flows}
+use Rattle.lubase.specs.Limits.{most_flows}
 use Rattle.lutree.specs.Tree.{ProgramTree}
 use Rattle.luflow.specs.declared.form.FaultKind.{FaultKind}
 use Rattle.luflow.specs.declared.variable.Variable.{Variable}

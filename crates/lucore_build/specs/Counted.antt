@@ -1,7 +1,7 @@
 -- The sizes of a program's nodes, counted up to the most that a flat list may have and one more. A size can
 -- double from node to node, so a size itself may be too large for any number of the machine; its count isn't.
 use Rattle.std.specs.Prelude.{◌≡◌, ◌↔◌, ◌<◌, ℕ, min, Bool, IsTrue, List, map}
-use Rattle.lulimits.specs.Limits.{most_flows}
+use Rattle.lubase.specs.Limits.{most_flows}
 use Rattle.lutree.specs.declared.expr.Infix.{Infix}
 use Rattle.lutree.specs.declared.expr.Infix.TheVariants.{Data, Arrow, FollowedBy}
 use Rattle.lutree.specs.Tree.{ProgramTree}

@@ -5,7 +5,7 @@ ghost use Rattle.lutree.specs.Tree.{program_view};
 ghost use Rattle.lucore_build.specs.Counted.{AreCounted, IsTooLarge, IsTooLong};
 
 use crate::count::{count_of, node_count};
-use lulimits::limits::MOST_FLOWS;
+use lubase::limits::MOST_FLOWS;
 use lustat::Checked;
 use std::alloc::{AllocError, Global};
 

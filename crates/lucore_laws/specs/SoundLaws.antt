@@ -1,6 +1,6 @@
 -- What the flat list of an accepted program keeps.
 use Rattle.std.specs.Prelude.{◌≡◌, ◌≤◌, ℕ, List, ◌++◌, Some, slice_get, All}
-use Rattle.lulimits.specs.Limits.{most_flows}
+use Rattle.lubase.specs.Limits.{most_flows}
 use Rattle.lutree.specs.Tree.{ProgramTree}
 use Rattle.luflow.specs.declared.form.Flow.{Flow}
 use Rattle.luflow.specs.declared.form.Form.TheVariants.{Input}

@@ -4,7 +4,7 @@ use crate::find::node_named;
 use crate::naming::near_variable;
 use crate::near::{FAR, are_apart};
 use lubase::Places;
-use lulimits::limits::{LONGEST_SITE_NAME, MOST_CAPACITY};
+use lubase::limits::{LONGEST_SITE_NAME, MOST_CAPACITY};
 use luplace_file::PlaceError;
 use lustat_rules::Scope;
 use lutree::{Node, Program};

@@ -10,7 +10,7 @@ use crate::sentences;
 use crate::sought::{entry_in, key_in, text_behind};
 use crate::unread::said_of_order;
 use crate::words::Part;
-use lulimits::limits::{LONGEST_PLACEMENT, MOST_SITES};
+use lubase::limits::{LONGEST_PLACEMENT, MOST_SITES};
 use luplace_file::PlaceError;
 use lutree::Program;
 use std::alloc::{AllocError, Global};

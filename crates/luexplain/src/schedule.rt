@@ -10,7 +10,7 @@ use crate::said::{Explanation, Said, reported, say, whole};
 use crate::sentences;
 use crate::unread::said_of_order;
 use crate::words::Part;
-use lulimits::limits::LONGEST_SCHEDULE;
+use lubase::limits::LONGEST_SCHEDULE;
 use lusdist_shell::ScheduleError;
 use std::alloc::{AllocError, Global};
 use std::slice;

@@ -14,7 +14,7 @@ use crate::sentences;
 use crate::sentences::Wording;
 use crate::unread::said_of_order;
 use crate::words::Part;
-use lulimits::limits::LONGEST_PROGRAM;
+use lubase::limits::LONGEST_PROGRAM;
 use lusyn::SynError;
 use lusyn_grammar::{LexError, Lexeme, lex};
 use std::alloc::{AllocError, Global};

@@ -12,7 +12,7 @@ use crate::stray::{said_of_empty, stray_in};
 use crate::unread::said_of_order;
 use crate::words::Part;
 use crate::{sentences, table_sentences};
-use lulimits::limits::LONGEST_TABLE;
+use lubase::limits::LONGEST_TABLE;
 use lutab::TabError;
 use lutree::{Declaration, Program};
 use std::alloc::{AllocError, Global};

@@ -2,7 +2,7 @@
 use Rattle.std.specs.Prelude.{◌≡◌, ℕ, ◌≤◌, List, [], ◌∷◌, map, length, All, Vec, string_bytes}
 use Rattle.std.specs.declared.string.String.{String}
 use Rattle.std.specs.declared.alloc.Global.{Global}
-use Rattle.lulimits.specs.Limits.{most_instants}
+use Rattle.lubase.specs.Limits.{most_instants}
 use Rattle.luflow.specs.declared.data.Status.{Status}
 use Rattle.luflow.specs.declared.values.Values.{Values}
 use Rattle.luflow.specs.declared.variable.Variable.{Variable}

@@ -10,7 +10,7 @@ use crate::data::Datum;
 use crate::flat::Flat;
 use crate::values::Values;
 use crate::variable::Variable;
-use lulimits::limits::MOST_INSTANTS;
+use lubase::limits::MOST_INSTANTS;
 use lutree::Kind;
 use std::marker::Model;
 

@@ -6,3 +6,14 @@ pub mod Names
 pub mod Variables
 pub mod Columns
 pub mod Passing
+pub mod Parts
+pub mod Owns
+pub mod Reads
+pub mod Sites
+pub mod FlowsPassed
+pub mod Standing
+pub mod Steps
+pub mod First
+pub mod Signs
+pub mod Words
+pub mod Told

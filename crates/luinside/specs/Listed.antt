@@ -1,7 +1,7 @@
 -- What the list of a program's instances is.
 use Rattle.std.specs.Prelude.{◌≡◌, ◌<◌, ◌≤◌, ◌⊎◌, ℕ, ◌+◌, List, [], ◌∷◌, length, map, Some, slice_get, All}
 use Rattle.std.specs.Prelude.{Contains}
-use Rattle.lulimits.specs.Limits.{most_flows}
+use Rattle.lubase.specs.Limits.{most_flows}
 use Rattle.lutree.specs.Tree.{NodeTree, ProgramTree}
 use Rattle.luflow.specs.Program.{FlatView}
 use Rattle.lusource.specs.Names.{variables_of, place_of, AreDistinct}

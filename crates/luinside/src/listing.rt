@@ -7,9 +7,9 @@ ghost use Rattle.luinside.specs.Listing.{all_from};
 ghost use Rattle.luinside.specs.Listed.{IsLow, ListsInstances};
 
 use crate::starts::{CallStart, call_starts};
+use lubase::limits::MOST_FLOWS;
 use lubase::{Row, number_at};
 use lucore_build::sizes;
-use lulimits::limits::MOST_FLOWS;
 use lustat::Checked;
 use lustat_rules::Catalog;
 use std::alloc::{AllocError, Global};

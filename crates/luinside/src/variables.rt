@@ -1,7 +1,7 @@
 //! The variables of all instances.
 
 ghost use Rattle.std.specs.Prelude.{◌≡◌, ◌≤◌, ◌+◌, ◌++◌, length, IfOk, OnOk};
-ghost use Rattle.lulimits.specs.Limits.{most_flows};
+ghost use Rattle.lubase.specs.Limits.{most_flows};
 ghost use Rattle.lutree.specs.Tree.{declarations_view, node_view, program_view};
 ghost use Rattle.lusource.specs.Names.{variables_of};
 ghost use Rattle.lucore_laws.specs.Layout.{variables_as, main_variables};

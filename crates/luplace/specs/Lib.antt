@@ -2,3 +2,9 @@ pub mod SiteInputsViews
 pub mod Placing
 pub mod Marks
 pub mod Vectors
+pub mod Ways
+pub mod Layers
+pub mod Nils
+pub mod Sent
+pub mod Laws
+pub mod Crews

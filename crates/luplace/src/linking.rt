@@ -1,7 +1,7 @@
 //! The links of a plan.
 
 ghost use Rattle.std.specs.Prelude.{◌≡◌, ◌≤◌, ◌++◌, length, slice_index, IfOk};
-ghost use Rattle.lulimits.specs.Limits.{most_sites};
+ghost use Rattle.lubase.specs.Limits.{most_sites};
 ghost use Rattle.luplace.specs.Marks.{marks_at, is_marked, sites_at, is_taken, some_links, links_below};
 
 use crate::lookup::{first_of, row_at};

@@ -4,7 +4,7 @@ use Rattle.std.specs.Prelude.{ℕ, ℤ, pos, List, [], ◌∷◌, Bool, true, fa
 use Rattle.std.specs.Prelude.{None, if◌then◌else◌}
 use Rattle.std.specs.Ordering.{int_eq}
 use Rattle.std.specs.Str.{bytes_eq}
-use Rattle.lulimits.specs.Limits.{usual_capacity}
+use Rattle.lubase.specs.Limits.{usual_capacity}
 use Rattle.toml.specs.Data.{Data, string, array, Items, no_items, item, Members, no_members, member, as_str}
 use Rattle.toml.specs.Data.{as_integer, as_array, as_table}
 use Rattle.luplace_file.specs.declared.draft.Wanted.{Wanted}

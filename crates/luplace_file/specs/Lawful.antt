@@ -1,7 +1,7 @@
 -- What holds of every placement.
 use Rattle.std.specs.Prelude.{◌≡◌, ◌≢◌, ◌≤◌, ◌<◌, ℕ, List, length, true, All, AllPairs}
 use Rattle.std.specs.List.Sorted.{IsStrictlyIncreasing}
-use Rattle.lulimits.specs.Limits.{most_sites, most_capacity}
+use Rattle.lubase.specs.Limits.{most_sites, most_capacity}
 use Rattle.luplace_file.specs.Content.{PlaceView}
 use Rattle.luplace_file.specs.SiteName.{is_site_name}
 

@@ -1,6 +1,6 @@
 -- What the text of a placement says, and which refusal comes where it says nothing.
 use Rattle.std.specs.Prelude.{ℕ, List, length, nat_lt, Option, Some, None, Result, Err, if◌then◌else◌}
-use Rattle.lulimits.specs.Limits.{longest_placement}
+use Rattle.lubase.specs.Limits.{longest_placement}
 use Rattle.toml.specs.Data.{Members}
 use Rattle.toml.specs.Parse.{parse_document}
 use Rattle.luplace_file.specs.declared.draft.Draft.{Draft}

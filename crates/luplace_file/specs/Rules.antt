@@ -3,7 +3,7 @@ use Rattle.std.specs.Prelude.{ℕ, ℤ, pos, negsuc, List, [], ◌∷◌, length
 use Rattle.std.specs.Prelude.{nat_le, slice_index_or, Result, Ok, Err, if◌then◌else◌}
 use Rattle.std.specs.List.{list_all, list_any, filter, range_with_len}
 use Rattle.std.specs.Str.{bytes_eq}
-use Rattle.lulimits.specs.Limits.{most_sites, most_capacity}
+use Rattle.lubase.specs.Limits.{most_sites, most_capacity}
 use Rattle.luplace_file.specs.declared.choice.Version.{Version}
 use Rattle.luplace_file.specs.declared.choice.Version.TheVariants.{One, Two, Other}
 use Rattle.luplace_file.specs.declared.draft.Draft.{Draft}

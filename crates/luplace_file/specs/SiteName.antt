@@ -2,7 +2,7 @@
 use Rattle.std.specs.Prelude.{ℕ, List, [], ◌∷◌, length, Bool, false, ◌&&◌, ◌||◌, nat_lt, nat_eq}
 use Rattle.std.specs.List.{list_all}
 use Rattle.std.specs.Char.{is_ascii_alphabetic, is_ascii_alphanumeric}
-use Rattle.lulimits.specs.Limits.{longest_site_name}
+use Rattle.lubase.specs.Limits.{longest_site_name}
 
 -- a letter, a digit or an underscore
 abbrev pub is_name_byte : ℕ → Bool

@@ -13,7 +13,7 @@ use crate::choice::{Version, choice_in, version_of};
 use crate::error::PlaceError;
 use crate::spelling::{is_key, is_site_name};
 use lubase::{Name, Row};
-use lulimits::limits::USUAL_CAPACITY;
+use lubase::limits::USUAL_CAPACITY;
 use std::alloc::Global;
 use toml::{Table, Value};
 

@@ -2,11 +2,11 @@
 
 ghost use Rattle.std.specs.Prelude.{◌≡◌, ◌≤◌, ◌↔◌, IfOk, IsTrue, length, map};
 ghost use Rattle.lubase.specs.Places.{first_place};
-ghost use Rattle.lulimits.specs.Limits.{most_sites};
+ghost use Rattle.lubase.specs.Limits.{most_sites};
 ghost use Rattle.luplace_file.specs.Rules.{is_among, all_differ, are_sites, numbers_of};
 
 use lubase::{Name, Places, Row};
-use lulimits::limits::MOST_SITES;
+use lubase::limits::MOST_SITES;
 use std::alloc::{AllocError, Global};
 
 /// Whether a name is one of these. Takes no memory.

@@ -10,7 +10,7 @@ use crate::draft::draft_of;
 use crate::error::PlaceError;
 use crate::place::Place;
 use crate::rules::ruled;
-use lulimits::limits::LONGEST_PLACEMENT;
+use lubase::limits::LONGEST_PLACEMENT;
 use std::alloc::Global;
 use toml::Table;
 

@@ -2,7 +2,7 @@
 
 ghost use Rattle.std.specs.Prelude.{◌≡◌, ◌≤◌, true, IfOk, length, map};
 ghost use Rattle.std.specs.List.{list_all};
-ghost use Rattle.lulimits.specs.Limits.{most_sites};
+ghost use Rattle.lubase.specs.Limits.{most_sites};
 ghost use Rattle.luplace_file.specs.Answers.{Gives};
 ghost use Rattle.luplace_file.specs.Draft.{IsDraft};
 ghost use Rattle.luplace_file.specs.Rules.{is_known, is_capacity, is_site_count, is_in_range, all_differ, names_differ, are_sites, names_are_known, placed_at, size_of, stated, ruled};
@@ -13,7 +13,7 @@ use crate::error::PlaceError;
 use crate::names::{all_differ, are_sites, numbers_of};
 use crate::place::{Place, Placed};
 use lubase::{Name, Row};
-use lulimits::limits::{MOST_CAPACITY, MOST_SITES};
+use lubase::limits::{MOST_CAPACITY, MOST_SITES};
 use std::alloc::{AllocError, Global};
 
 fn is_known(version: Version) -> bool

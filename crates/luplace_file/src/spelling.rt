@@ -5,7 +5,7 @@ ghost use Rattle.std.specs.List.{list_all};
 ghost use Rattle.luplace_file.specs.SiteName.{is_name_byte, is_site_name};
 ghost use Rattle.luplace_file.specs.Keys.{is_key};
 
-use lulimits::limits::LONGEST_SITE_NAME;
+use lubase::limits::LONGEST_SITE_NAME;
 
 fn is_name_byte(byte: u8) -> bool
     ensures { result ≡ is_name_byte byte }

@@ -35,8 +35,8 @@ use Rattle.luplace_report.specs.Cause.{cause_of}
 use Rattle.luplace_report.specs.Aligned.{aligned}
 use Rattle.luplace_report.specs.Cycles.{AreFed, cycle_rows}
 use Rattle.luplace_report.specs.Way.{crew_rows, way_cells}
-use Rattle.luways.specs.declared.way.Way.{Way}
-use Rattle.luways.specs.Ways.{IsWayOf}
+use Rattle.luplace.specs.declared.way.Way.{Way}
+use Rattle.luplace.specs.Ways.{IsWayOf}
 
 -- SITES
 

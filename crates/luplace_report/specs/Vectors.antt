@@ -24,7 +24,7 @@ use Rattle.luplace_report.specs.Table.{table_text}
 use Rattle.luplace_report.specs.Cycles.{cycle_rows}
 use Rattle.luplace_report.specs.Way.{way_cells}
 use Rattle.luplace_report.specs.Graph.{graph_text}
-use Rattle.luways.specs.declared.way.Way.TheVariants.{Rows, Parted, Nil}
+use Rattle.luplace.specs.declared.way.Way.TheVariants.{Rows, Parted, Nil}
 
 -- each of these texts on a line of its own
 abbrev pub lines : List (List ℕ) → List ℕ

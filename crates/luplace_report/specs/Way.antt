@@ -8,9 +8,9 @@ use Rattle.std.specs.Prelude.{ℕ, Bool, List, [], ◌∷◌, ◌++◌, flat_map
 use Rattle.luflow.specs.Program.{FlatView}
 use Rattle.luflow.specs.Variables.{variable_name}
 use Rattle.luworld.specs.Needs.{PlanView, sites_of}
-use Rattle.luways.specs.declared.way.Way.{Way}
-use Rattle.luways.specs.declared.way.Way.TheVariants.{Rows, Parted, Nil}
-use Rattle.luways.specs.Crews.{quickest_crew}
+use Rattle.luplace.specs.declared.way.Way.{Way}
+use Rattle.luplace.specs.declared.way.Way.TheVariants.{Rows, Parted, Nil}
+use Rattle.luplace.specs.Crews.{quickest_crew}
 
 -- the names of variables behind another one
 abbrev pub further_names : FlatView → List ℕ → List ℕ

@@ -15,8 +15,7 @@ use crate::names::{clock_of, owner_name, put_clock, site_name};
 use crate::way::{put_crew, way_cells};
 use lubase::{Name, Row};
 use luflow::{Clock, Flat};
-use luplace::{Link, Plan};
-use luways::{Way, way_of};
+use luplace::{Link, Plan, Way, way_of};
 use std::alloc::{AllocError, Global};
 
 /// How many flows stand at a site.

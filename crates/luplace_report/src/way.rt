@@ -2,15 +2,14 @@
 
 ghost use Rattle.std.specs.Prelude.{◌≡◌, ◌++◌, nat_lt, IfOk, OnOk};
 ghost use Rattle.luworld.specs.Needs.{sites_of};
-ghost use Rattle.luways.specs.Crews.{quickest_crew};
+ghost use Rattle.luplace.specs.Crews.{quickest_crew};
 ghost use Rattle.luplace_report.specs.Names.{Adds};
 ghost use Rattle.luplace_report.specs.Way.{further_names, variable_list, sent_text, parted_text, nil_text, way_text, way_cells, small_rows, crew_rows};
 
 use crate::cells::text_pair;
 use lubase::{Name, Row};
 use luflow::Flat;
-use luplace::Plan;
-use luways::{Way, quickest_crew};
+use luplace::{Plan, Way, quickest_crew};
 use std::alloc::{AllocError, Global};
 
 /// A comma and the name of a variable, for each of these.

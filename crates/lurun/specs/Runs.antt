@@ -3,10 +3,10 @@ use Rattle.std.specs.Prelude.{◌≡◌, ◌<◌, ◌⊎◌, ℕ, Bool, true, fa
 use Rattle.luworld.specs.Needs.{PlanView, sites_of}
 use Rattle.luworld.specs.Jobs.{JobView, NoFault}
 use Rattle.lusite.specs.Machine.{IsFaultAt}
-use Rattle.luways.specs.declared.way.Way.{Way}
-use Rattle.luways.specs.declared.way.Way.TheVariants as ways
-use Rattle.luways.specs.Ways.{IsWayOf}
-use Rattle.luways.specs.Crews.{quickest_crew}
+use Rattle.luplace.specs.declared.way.Way.{Way}
+use Rattle.luplace.specs.declared.way.Way.TheVariants as ways
+use Rattle.luplace.specs.Ways.{IsWayOf}
+use Rattle.luplace.specs.Crews.{quickest_crew}
 use Rattle.lurun.specs.declared.engine.Engine.{Engine}
 use Rattle.lurun.specs.declared.engine.Engine.TheVariants.{Rows, Lists, Items}
 use Rattle.lurun.specs.declared.options.Workers.{Workers}

@@ -4,8 +4,7 @@ ghost use Rattle.std.specs.Prelude.{◌≡◌, ◌<◌, IfOk};
 ghost use Rattle.lurun.specs.Runs.{AreSome, IsEngineFor, IsEngineOf, crew_of};
 
 use crate::engine::Engine;
-use luplace::Plan;
-use luways::{Way, quickest_crew, way_of};
+use luplace::{Plan, Way, quickest_crew, way_of};
 use std::alloc::{AllocError, Global};
 
 /// How many workers serve the sites of a run.

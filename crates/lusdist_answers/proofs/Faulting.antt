@@ -8,9 +8,9 @@ use Rattle.luflow.specs.Program.{FlatView, InputsView}
 use Rattle.lusyn.specs.Places.{ArePlacesOf}
 use Rattle.lusyn.specs.Texts.{SpellsText}
 use Rattle.lucore.specs.Result.{IsFlatOf}
-use Rattle.lufault.specs.declared.told.Telling.TheVariants.{Whole, Other}
-use Rattle.lufault.specs.declared.told.ToldFault.{ToldFault}
-use Rattle.lufault.specs.Told.{Tells}
+use Rattle.luinside.specs.declared.told.Telling.TheVariants.{Whole, Other}
+use Rattle.luinside.specs.declared.told.ToldFault.{ToldFault}
+use Rattle.luinside.specs.Told.{Tells}
 use Rattle.luexplain.specs.declared.said.Explanation.{Explanation}
 use Rattle.luexplain.specs.Place.{place}
 use Rattle.luexplain.specs.Texts.{IsExplainedSomewhere}

@@ -20,8 +20,8 @@ use Rattle.lusyn.specs.Texts.{SpellsText}
 use Rattle.lucore_laws.specs.Layout.{enum_of}
 use Rattle.lucore_laws.proofs.Names.{mapped_some}
 use Rattle.lutab.specs.Text.{IsFieldName, is_end}
-use Rattle.lustart.specs.Table.{HaveFirstNames}
-use Rattle.lustart.proofs.Spelled.{first_table_law}
+use Rattle.lutab.specs.FirstTable.{HaveFirstNames}
+use Rattle.lutab.proofs.Spelled.{first_table_law}
 use Rattle.lusdist_call.specs.Begun.{BeginsWithInputs}
 
 -- ---- words have neither commas nor line feeds

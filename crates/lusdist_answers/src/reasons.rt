@@ -17,7 +17,7 @@ use luexplain::{
     Explanation, SyntaxRefusal, all_refusals, of_cycle, of_fault, of_place, of_rule, of_schedule,
     of_size, of_syntax, of_table, of_unread, where_in,
 };
-use lufault::{Telling, ToldFault, told_fault};
+use luinside::{Telling, ToldFault, told_fault};
 use luflow::{FaultKind, Flat, Inputs};
 use luplace_file::PlaceError;
 use lusdist_call::{CallError, read};

@@ -4,7 +4,7 @@ ghost use Rattle.std.specs.Prelude.{◌≡◌, IfOk, string_bytes};
 ghost use Rattle.lusdist_call.specs.Begun.{start_text};
 
 use luflow::Flat;
-use lustart::{write_placement, write_table};
+use lutab::{write_placement, write_table};
 use std::alloc::{AllocError, Global};
 
 /// A table of inputs of so many instants, where one is asked for, else a placement of all main variables at one site.

@@ -1,11 +1,11 @@
 -- What a design begins with, and that its table is one of the program's inputs.
 use Rattle.std.specs.Prelude.{◌≡◌, ◌≤◌, ℕ, List, Option, Some, None}
-use Rattle.lulimits.specs.Limits.{most_instants}
+use Rattle.lubase.specs.Limits.{most_instants}
 use Rattle.luflow.specs.Program.{FlatView}
 use Rattle.luflow.specs.Variables.{inputs_of}
 use Rattle.lutab.specs.Table.{IsTextOf}
-use Rattle.lustart.specs.Placement.{first_placement}
-use Rattle.lustart.specs.Table.{first_inputs, first_table}
+use Rattle.lutab.specs.FirstPlacement.{first_placement}
+use Rattle.lutab.specs.FirstTable.{first_inputs, first_table}
 use Rattle.lusdist_shell.specs.Files.{FileFacts}
 use Rattle.lusdist_shell.specs.declared.request.NewRequest.{NewRequest}
 use Rattle.lusdist_call.specs.Asked.{HasFlat, IsFlatAt}

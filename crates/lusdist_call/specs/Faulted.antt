@@ -8,8 +8,8 @@ use Rattle.luflow.specs.Program.{FlatView, InputsView}
 use Rattle.lusyn.specs.Places.{ArePlacesOf}
 use Rattle.lusyn.specs.Texts.{SpellsText}
 use Rattle.lucore.specs.Result.{IsFlatOf}
-use Rattle.lufault.specs.declared.first.FirstFault.{FirstFault}
-use Rattle.lufault.specs.Told.{IsAlwaysOperator, IsFirstTold, IsNotFirst, IsToldAs}
+use Rattle.luinside.specs.declared.first.FirstFault.{FirstFault}
+use Rattle.luinside.specs.Told.{IsAlwaysOperator, IsFirstTold, IsNotFirst, IsToldAs}
 use Rattle.luexplain.specs.declared.said.Explanation.{Explanation}
 use Rattle.luexplain.specs.Explanations.{whole}
 use Rattle.luexplain.specs.Place.{place}

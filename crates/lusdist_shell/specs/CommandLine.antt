@@ -1,6 +1,6 @@
 -- The command line of the program, in the words of the crate that parses it.
 use Rattle.std.specs.Prelude.{ℕ, [], ◌∷◌, true, codes, Some}
-use Rattle.lulimits.specs.Limits.{longest_schedule, most_instants}
+use Rattle.lubase.specs.Limits.{longest_schedule, most_instants}
 use Rattle.clap.specs.Walk.{Rule, Text}
 use Rattle.clap.specs.Simple.{App, new_app, new_rule, on_top, with_rule, with_subcommand}
 use Rattle.clap.specs.declared.builder.action.ArgAction.TheVariants.{Set, SetTrue, Append}

@@ -23,7 +23,7 @@ use Rattle.lusdist_shell.specs.declared.request.TurnsSource.TheVariants.{File, R
 use Rattle.lusdist_shell.specs.declared.request.RunRequest.{RunRequest}
 use Rattle.lusdist_shell.specs.declared.request.Request.{Request}
 use Rattle.lusdist_shell.specs.declared.request.Request.TheVariants.{Check, Eval, New, Plan, Replay, Run, Explain}
-use Rattle.lulimits.specs.Limits.{most_instants}
+use Rattle.lubase.specs.Limits.{most_instants}
 use Rattle.lusdist_shell.specs.CommandLine.{last_instant, greatest_seed, lusdist}
 
 -- the text that the matches of a command hold for an argument

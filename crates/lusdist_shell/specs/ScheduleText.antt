@@ -2,7 +2,7 @@
 use Rattle.std.specs.Prelude.{ℕ, List, length, nat_lt, position, Option, Some, None, Result, Ok, Err}
 use Rattle.std.specs.Prelude.{if◌then◌else◌}
 use Rattle.std.specs.List.{filter_map}
-use Rattle.lulimits.specs.Limits.{longest_schedule}
+use Rattle.lubase.specs.Limits.{longest_schedule}
 use Rattle.lusdist_shell.specs.declared.schedule.ScheduleError.{ScheduleError}
 use Rattle.lusdist_shell.specs.declared.schedule.ScheduleError.TheVariants.{BadSchedule, LongSchedule}
 use Rattle.lusdist_shell.specs.Schedule.{turn_of, is_bad}

@@ -7,7 +7,7 @@ ghost use Rattle.lusdist_shell.specs.Arguments.{rule_in};
 
 use clap::builder::ValueParser;
 use clap::{Arg, ArgAction};
-use lulimits::limits::MOST_INSTANTS;
+use lubase::limits::MOST_INSTANTS;
 use std::alloc::Global;
 
 /// The last instant that a table may have.

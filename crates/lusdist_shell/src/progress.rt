@@ -1,6 +1,6 @@
 //! How far a run has come.
 
-use lulimits::limits::MOST_SITES;
+use lubase::limits::MOST_SITES;
 use std::io::Eprint;
 use std::sync::atomic::{AtomicU64, Ordering};
 use std::time::{Clock, Instant};

@@ -1,11 +1,11 @@
 //! The schedule: whose turn it is, turn by turn.
 
 ghost use Rattle.std.specs.Prelude.{◌≡◌, ◌⊎◌, ◌<◌, MatchResult, IfOk, All, ℕ};
-ghost use Rattle.lulimits.specs.Limits.{most_sites};
+ghost use Rattle.lubase.specs.Limits.{most_sites};
 ghost use Rattle.lusdist_shell.specs.Schedule.{turn_of, is_turn, is_blank};
 ghost use Rattle.lusdist_shell.specs.ScheduleText.{schedule_of};
 
-use lulimits::limits::LONGEST_SCHEDULE;
+use lubase::limits::LONGEST_SCHEDULE;
 use std::alloc::Global;
 use std::fmt;
 use thiserror::Error;

@@ -12,7 +12,7 @@ use Rattle.lustat_rules.specs.Reported.{byte_of, number_of}
 use Rattle.lustat_rules.specs.Faults.{is_before, IsAtMost, IsFault, AreKept}
 use Rattle.lustat_rules.specs.Least.{IsLeastFault}
 use Rattle.lustat_rules.proofs.Keeping.{broken_somewhere}
-use Rattle.lustat_faults.specs.AllFaults.{AreAllFaults}
+use Rattle.lustat_rules.specs.AllFaults.{AreAllFaults}
 use Rattle.lutype.specs.Asked.{is_asked as is_name_rule}
 use Rattle.lutype.specs.First.{IsRecursionFault, IsNameFault}
 use Rattle.lustat_clocks.specs.Asked.{is_asked}

@@ -5,7 +5,7 @@ use Rattle.lutree.specs.Tree.{program_view}
 use Rattle.lustat_rules.specs.Accepted.{Passes, IsAccepted}
 use Rattle.lustat_rules.specs.declared.error.StatError.{StatError}
 use Rattle.lustat_rules.specs.Faults.{IsFault}
-use Rattle.lustat_faults.specs.AllFaults.{AreAllFaults}
+use Rattle.lustat_rules.specs.AllFaults.{AreAllFaults}
 use Rattle.lutype.specs.First.{IsNameFault}
 use Rattle.lustat_clocks.specs.Asked.{is_asked as is_clock_rule}
 use Rattle.lustat_init.specs.Faults.{IsFault as IsClassFault}

@@ -4,8 +4,8 @@ use Rattle.lustat_rules.specs.Accepted.{Rule, duplicate_name, unknown_name, unkn
 use Rattle.lustat_rules.specs.declared.error.StatError.{StatError}
 use Rattle.lustat_rules.specs.Faults.{lesser_of, IsJudged, FaultAt, AllKept}
 use Rattle.lustat_rules.proofs.Judging.{RuleFault, judged_both, judged_same}
-use Rattle.lustat_faults.specs.Told.{Tells}
-use Rattle.lustat_faults.proofs.Telling.{TellsOne, tells_last, tells_more, tells_same}
+use Rattle.lustat_rules.specs.Told.{Tells}
+use Rattle.lustat_rules.proofs.Telling.{TellsOne, tells_last, tells_more, tells_same}
 use Rattle.lustat_clocks.specs.Asked.{is_asked}
 
 module _ (byte : ℕ) (K : Rule → Type 0) where

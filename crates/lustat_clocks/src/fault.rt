@@ -6,15 +6,14 @@ ghost use Rattle.lutree.specs.Tree.{node_view, program_view};
 ghost use Rattle.lustat_rules.specs.Scope.{node_called};
 ghost use Rattle.lustat_rules.specs.Clocks.{HasUnclockedOutputs};
 ghost use Rattle.lustat_rules.specs.Faults.{declared_in, IsJudged, DeclarationFault, DeclarationKept, EquationFault, EquationKept};
-ghost use Rattle.lustat_faults.specs.Told.{Tells};
+ghost use Rattle.lustat_rules.specs.Told.{Tells};
 ghost use Rattle.lustat_clocks.specs.Chains.{MarksEnds};
 ghost use Rattle.lustat_clocks.specs.Asked.{is_asked};
 
 use crate::agree::agrees;
 use crate::chain::{is_clock, names_clocks};
 use crate::parameter::{calls_unclocked, is_unclocked, is_visible};
-use lustat_faults::least_of;
-use lustat_rules::{Catalog, Scope, StatError, reported};
+use lustat_rules::{Catalog, Scope, StatError, least_of, reported};
 use lutree::{Declaration, Equation};
 
 /// The faults of a declaration, rule by rule, whatever the program round its node.

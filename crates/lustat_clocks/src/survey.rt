@@ -2,14 +2,13 @@
 
 ghost use Rattle.std.specs.Prelude.{IfOk};
 ghost use Rattle.lustat_rules.specs.Faults.{IsFault};
-ghost use Rattle.lustat_faults.specs.AllFaults.{AreAllFaults};
+ghost use Rattle.lustat_rules.specs.AllFaults.{AreAllFaults};
 ghost use Rattle.lustat_clocks.specs.Asked.{is_asked};
 
 use crate::fault::{declaration_faults, equation_faults};
 use crate::parameter::main_is_unclocked;
 use crate::search::ClockStage;
-use lustat_faults::{Survey, all_faults, push_each};
-use lustat_rules::{Catalog, Scope, StatError};
+use lustat_rules::{Catalog, Scope, StatError, Survey, all_faults, push_each};
 use lutree::{Declaration, DeclaredName, Equation, TypeDeclaration};
 use std::alloc::{AllocError, Global};
 

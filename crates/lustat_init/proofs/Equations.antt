@@ -7,8 +7,8 @@ use Rattle.lustat_rules.specs.declared.error.StatError.{StatError}
 use Rattle.lustat_rules.specs.Faults.{FaultAt, AllKept}
 use Rattle.lustat_rules.proofs.Judging.{RuleFault}
 use Rattle.lustat_rules.proofs.Raising.{is_one_grows, needs_fall}
-use Rattle.lustat_faults.specs.Told.{Tells}
-use Rattle.lustat_faults.proofs.Telling.{TellsOne, tells_last, tells_more, tells_same}
+use Rattle.lustat_rules.specs.Told.{Tells}
+use Rattle.lustat_rules.proofs.Telling.{TellsOne, tells_last, tells_more, tells_same}
 use Rattle.lustat_init.specs.Judged.{KeepsClasses}
 use Rattle.lustat_init.specs.Faults.{is_asked, KeepsLeast}
 

@@ -5,7 +5,7 @@ ghost use Rattle.lutree.specs.declared.program.Node.{Node};
 ghost use Rattle.lutree.specs.Tree.{node_view, program_view};
 ghost use Rattle.lustat_rules.specs.Accepted.{Passes};
 ghost use Rattle.lustat_rules.specs.Faults.{IsJudged};
-ghost use Rattle.lustat_faults.specs.Told.{Tells};
+ghost use Rattle.lustat_rules.specs.Told.{Tells};
 ghost use Rattle.lustat_init.specs.Assigned.{LeftsKnown};
 ghost use Rattle.lustat_init.specs.Faults.{EquationKept, EquationFault, AreKept, IsFault, ReportsBroken};
 ghost use Rattle.lustat_init.specs.Served.{Serves, AreLeast};
@@ -14,8 +14,7 @@ ghost use Rattle.lustat_init.specs.Rows.{plain, GiveLeastBelow, AreClasses, IfKe
 use crate::Firsts;
 use crate::judge::{clocks_named, keeps_classes};
 use crate::least::least_classes;
-use lustat_faults::least_of;
-use lustat_rules::{Catalog, Places, Scope, Stage, StatError, least_fault, reported};
+use lustat_rules::{Catalog, Places, Scope, Stage, StatError, least_fault, least_of, reported};
 use lutree::{Declaration, DeclaredName, Equation, TypeDeclaration};
 use std::alloc::{AllocError, Global};
 

@@ -2,14 +2,13 @@
 
 ghost use Rattle.std.specs.Prelude.{All, IfOk, length};
 ghost use Rattle.lutree.specs.Tree.{program_view};
-ghost use Rattle.lustat_faults.specs.AllFaults.{AreAllFaults};
+ghost use Rattle.lustat_rules.specs.AllFaults.{AreAllFaults};
 ghost use Rattle.lustat_init.specs.Assigned.{LeftsKnown};
 ghost use Rattle.lustat_init.specs.Faults.{IsFault};
 ghost use Rattle.lustat_init.specs.Rows.{plain, GiveLeastBelow};
 
 use crate::search::{ClassStage, Prepared, equation_faults, rows_of};
-use lustat_faults::{Survey, all_faults, push_each};
-use lustat_rules::{Catalog, Scope, StatError};
+use lustat_rules::{Catalog, Scope, StatError, Survey, all_faults, push_each};
 use lutree::{Declaration, DeclaredName, Equation, TypeDeclaration};
 use std::alloc::{AllocError, Global};
 

@@ -19,3 +19,6 @@ pub mod Keeping
 pub mod Placed
 mod Labelled
 pub mod Lent
+pub mod Gaining
+pub mod Ordering
+pub mod Telling

@@ -19,3 +19,5 @@ pub mod Tables
 pub mod Catalogs
 pub mod Stages
 pub mod Lent
+pub mod AllFaults
+pub mod Told

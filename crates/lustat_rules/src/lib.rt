@@ -1,5 +1,5 @@
 //! The static rules of programs, as definitions over the tree; what a refusal reports; and what the stages of the
-//! static checks share: names looked up by tables, and one search for the least fault.
+//! static checks share: names looked up by tables, one search for the least fault, and one for all.
 //!
 //! # The rules
 //!
@@ -29,6 +29,18 @@
 //! - [`least_fault`]: the least fault that a stage finds.
 //!
 //! What a look-up finds is said by the plain scan of declarations.
+//!
+//! # All faults
+//!
+//! All faults that a stage finds, each once, in order of place.
+//!
+//! - [`Survey`]: a stage that also gives all faults of a type, a name, a node, a declaration and an equation.
+//! - [`all_faults`]: all faults of a stage, in order; [`push_faults`]: the same in any order, behind others.
+//! - [`in_order`]: faults in order of place, each once.
+//! - [`push_fault`], [`push_each`]: the fault of one rule, those of several.
+//! - [`least_of`]: of the faults of several rules the one that is reported.
+//!
+//! What all faults are stands in `specs/AllFaults.antt`, what a row of rules tells of a place in `specs/Told.antt`.
 #![tactic(auto)]
 
 mod catalog;
@@ -36,13 +48,19 @@ mod clock_ref;
 mod error;
 pub mod laws;
 mod least;
+mod order;
+mod row;
 mod scope;
 mod stage;
+mod survey;
 
 pub use catalog::Catalog;
 pub use clock_ref::{ClockRef, PatternRef, PlacedClock};
 pub use error::StatError;
 pub use least::{is_reported_before, lesser, reported};
 pub use lubase::Places;
+pub use order::in_order;
+pub use row::{least_of, push_each, push_fault};
 pub use scope::Scope;
 pub use stage::{Stage, least_fault};
+pub use survey::{Survey, all_faults, push_faults};

@@ -1,6 +1,6 @@
 -- A canonical text is read back.
 use Rattle.std.proofs.Common.{◌≡◌, ◌≤◌, ℕ, List, length, Result, Ok, Err, IfOk, subst, sym, ap, ◌∙◌}
-use Rattle.lulimits.specs.Limits.{longest_program}
+use Rattle.lubase.specs.Limits.{longest_program}
 use Rattle.lutree.specs.Tree.{ProgramTree}
 use Rattle.lusyn_printer.specs.Canonical.{canonical}
 use Rattle.lusyn_printer.proofs.Bare.{canonical-bare}

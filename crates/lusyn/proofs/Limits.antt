@@ -1,6 +1,6 @@
 -- No program is both small and large.
 use Rattle.std.proofs.Common.{◌≤◌, List, [], ◌∷◌, length, inl, inr, arith}
-use Rattle.lulimits.specs.Limits.{most_names}
+use Rattle.lubase.specs.Limits.{most_names}
 use Rattle.lutree.specs.Tree.{TypeTree, ProgramTree}
 use Rattle.lusyn_grammar.specs.Grammar.{Each}
 use Rattle.lusyn.specs.Texts.{IsSmall, HasLongType, IsLarge}

@@ -1,6 +1,6 @@
 -- Which text spells which program.
 use Rattle.std.specs.Prelude.{◌≡◌, ◌≤◌, ◌<◌, ◌⊎◌, ℕ, List, [], ◌∷◌, length}
-use Rattle.lulimits.specs.Limits.{longest_program, most_nodes, most_types, most_names}
+use Rattle.lubase.specs.Limits.{longest_program, most_nodes, most_types, most_names}
 use Rattle.lutree.specs.Tree.{TypeTree, ProgramTree}
 use Rattle.lusyn_grammar.specs.Lexing.{Placed}
 use Rattle.lusyn_grammar.specs.Refusals.{IsLexed}

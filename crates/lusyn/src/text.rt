@@ -4,7 +4,7 @@ ghost use Rattle.std.specs.Prelude.{◌≡◌, ◌≤◌, ◌⊎◌, true, false
 ghost use Rattle.std.specs.Result.{IfErr};
 ghost use Rattle.lutree.specs.Places.{places_view};
 ghost use Rattle.lutree.specs.Tree.{ProgramTree, program_view};
-ghost use Rattle.lulimits.specs.Limits.{most_names};
+ghost use Rattle.lubase.specs.Limits.{most_names};
 ghost use Rattle.lusyn_grammar.specs.Grammar.{Each};
 ghost use Rattle.lusyn_parser.specs.Tables.{types_view};
 ghost use Rattle.lusyn.specs.Gives.{IsAnswered, Refuses};
@@ -13,7 +13,7 @@ ghost use Rattle.lusyn.specs.Refusals.{IsRefused};
 ghost use Rattle.lusyn.specs.Texts.{HasProgram, IsSmall, HasLongType, IsLarge, SpellsText};
 
 use crate::error::SynError;
-use lulimits::limits::{MOST_NAMES, MOST_NODES, MOST_TYPES};
+use lubase::limits::{MOST_NAMES, MOST_NODES, MOST_TYPES};
 use lusyn_grammar::lex;
 use lusyn_parser::{parse_tokens, resolve};
 use lutree::{Program, TypeDeclaration};

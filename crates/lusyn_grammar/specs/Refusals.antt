@@ -1,7 +1,7 @@
 -- What a text has to be, and which refusal is true of any other.
 use Rattle.std.specs.Prelude.{◌≡◌, ◌≢◌, ◌<◌, ◌≤◌, ◌^◌, ℕ, List, ◌∷◌, ◌++◌, length, Option, Some}
 use Rattle.std.specs.Str.{IsAscii, IsNotAscii}
-use Rattle.lulimits.specs.Limits.{longest_program}
+use Rattle.lubase.specs.Limits.{longest_program}
 use Rattle.lusyn_grammar.specs.Tokens.{Tok, number}
 use Rattle.lusyn_grammar.specs.declared.error.LexError.{LexError}
 use Rattle.lusyn_grammar.specs.declared.error.LexError.TheVariants as e

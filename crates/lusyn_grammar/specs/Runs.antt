@@ -1,7 +1,7 @@
 -- Runs of tokens. A run's tokens are those before the first `;`, those between two, and those after the last.
 use Rattle.std.specs.Prelude.{◌≡◌, ◌≤◌, ℕ, Bool, true, false, List, ◌∷◌, ◌++◌, length}
 use Rattle.std.specs.List.{list_all}
-use Rattle.lulimits.specs.Limits.{longest_run}
+use Rattle.lubase.specs.Limits.{longest_run}
 use Rattle.lusyn_grammar.specs.declared.token.Fixed.TheVariants as f
 use Rattle.lusyn_grammar.specs.Tokens.{Tok, fixed}
 use Rattle.lusyn_grammar.specs.Lexing.{Placed}

@@ -4,7 +4,7 @@ use Rattle.std.specs.Prelude.{take, Option, Some, None, Result, Ok, Err, if◌th
 use Rattle.std.specs.Char.{is_ascii_digit}
 use Rattle.std.specs.List.{prefix_len}
 use Rattle.std.specs.Str.Parse.{digits_value}
-use Rattle.lulimits.specs.Limits.{longest_run}
+use Rattle.lubase.specs.Limits.{longest_run}
 use Rattle.lusyn_grammar.specs.declared.error.LexError.{LexError}
 use Rattle.lusyn_grammar.specs.declared.error.LexError.TheVariants.{NoToken, NumberTooLarge, LongRun}
 use Rattle.lusyn_grammar.specs.declared.token.Fixed.{Fixed}

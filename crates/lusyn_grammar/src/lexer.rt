@@ -16,7 +16,7 @@ ghost use Rattle.lusyn_grammar.specs.Scanning as scanning;
 
 use crate::error::LexError;
 use crate::{Fixed, Lexeme, Token, keyword};
-use lulimits::limits::{LONGEST_PROGRAM, LONGEST_RUN};
+use lubase::limits::{LONGEST_PROGRAM, LONGEST_RUN};
 use std::alloc::Global;
 
 fn is_letter(byte: u8) -> bool

@@ -11,7 +11,7 @@ use Rattle.lutree.specs.declared.expr.Label.{Label}
 use Rattle.lutree.specs.declared.program.Kind.{Kind}
 use Rattle.lutree.specs.declared.program.DeclaredName.{DeclaredName}
 use Rattle.lutree.specs.declared.program.TypeDeclaration.{TypeDeclaration}
-use Rattle.lulimits.specs.Limits.{most_types, most_names}
+use Rattle.lubase.specs.Limits.{most_types, most_names}
 use Rattle.lutree.specs.Tree.{TypeTree, type_view}
 use Rattle.lusyn_grammar.specs.Grammar.{Each}
 use Rattle.lusyn_parser.specs.Resolved.{numbered, enumeration, labels_from, label_among, kind_from}

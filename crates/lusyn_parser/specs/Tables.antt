@@ -1,6 +1,6 @@
 -- The labels of a program's types, as rows side by side.
 use Rattle.std.specs.Prelude.{◌≡◌, ℕ, ◌≤◌, ◌<◌, List, map, length, slice_index_or}
-use Rattle.lulimits.specs.Limits.{most_types, most_names}
+use Rattle.lubase.specs.Limits.{most_types, most_names}
 use Rattle.lutree.specs.declared.expr.Label.{Label}
 use Rattle.lutree.specs.declared.program.Kind.{Kind}
 use Rattle.lutree.specs.declared.program.TypeDeclaration.{TypeDeclaration}

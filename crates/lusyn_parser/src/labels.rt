@@ -4,7 +4,7 @@ ghost use Rattle.std.specs.Prelude.{◌≡◌, ◌<◌, ◌≤◌, ◌++◌, map
 ghost use Rattle.std.specs.Option.{option_map};
 ghost use Rattle.lusyn_parser.specs.Resolved.{numbered, labels, label_of, kind_of, enumeration};
 ghost use Rattle.lusyn_parser.specs.Tables.{types_view, marks_of, names_of, marked, AreFew, AreShort};
-ghost use Rattle.lulimits.specs.Limits.{most_types};
+ghost use Rattle.lubase.specs.Limits.{most_types};
 ghost use Rattle.lutree.specs.Tree.{type_view};
 
 use lubase::Places;

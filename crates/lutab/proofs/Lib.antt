@@ -10,3 +10,5 @@ mod Rowwise
 pub mod Joins
 mod Written
 mod Placing
+mod Repeats
+pub mod Spelled

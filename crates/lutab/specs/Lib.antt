@@ -6,3 +6,5 @@ pub mod Text
 pub mod Buffers
 pub mod Outputs
 pub mod Aligned
+pub mod FirstPlacement
+pub mod FirstTable

@@ -4,7 +4,7 @@ use Rattle.std.specs.Prelude.{true, false, not, ◌||◌, nat_lt, nat_eq, count_
 use Rattle.std.specs.Prelude.{slice_index_or}
 use Rattle.std.specs.List.{flat_map}
 use Rattle.std.specs.Option.{option_map_or}
-use Rattle.lulimits.specs.Limits.{longest_table, most_instants}
+use Rattle.lubase.specs.Limits.{longest_table, most_instants}
 use Rattle.lutree.specs.declared.program.Kind.{Kind}
 use Rattle.luflow.specs.declared.data.Datum.{Datum}
 use Rattle.luflow.specs.declared.data.Datum.TheVariants.{Nil}

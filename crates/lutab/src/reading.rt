@@ -1,7 +1,7 @@
 //! The text of a table of inputs.
 
 ghost use Rattle.std.specs.Prelude.{◌≡◌, ◌≢◌, ◌≤◌, ◌++◌, List, ℕ, length, false, Ok, Err, IfOk, IfErr, IfSome, IfNone, count_by, string_bytes};
-ghost use Rattle.lulimits.specs.Limits.{longest_table, most_instants};
+ghost use Rattle.lubase.specs.Limits.{longest_table, most_instants};
 ghost use Rattle.luflow.specs.Program.{InputsView};
 ghost use Rattle.luflow.specs.Tables.{IsTable, FitsProgram, columns_view};
 ghost use Rattle.luflow.specs.Variables.{inputs_of};
@@ -14,8 +14,8 @@ ghost use Rattle.lutab.specs.Filling.{AreEmptyOf, ReadsColumns, ReadsText};
 use crate::error::TabError;
 use crate::put_comma;
 use crate::rows::read_rows;
+use lubase::limits::{LONGEST_TABLE, MOST_INSTANTS};
 use luflow::{Enum, Flat, Inputs, Values, Variable};
-use lulimits::limits::{LONGEST_TABLE, MOST_INSTANTS};
 use lutree::Kind;
 use std::alloc::{AllocError, Global};
 

@@ -1,7 +1,7 @@
 //! The lines of a table behind its header.
 
 ghost use Rattle.std.specs.Prelude.{◌≡◌, ◌<◌, ◌≤◌, length, List, ℕ, IfSome, count_by, position};
-ghost use Rattle.lulimits.specs.Limits.{longest_table};
+ghost use Rattle.lubase.specs.Limits.{longest_table};
 ghost use Rattle.luflow.specs.Tables.{columns_view};
 ghost use Rattle.luflow.specs.declared.variable.Enum.{Enum as AnyEnum};
 ghost use Rattle.lutab.specs.Table.{sorts_in, is_feed, is_comma, has_other_count, is_bad_row, IsNoRow};

@@ -5,8 +5,8 @@ use Rattle.lustat_rules.specs.declared.error.StatError.{StatError}
 use Rattle.lustat_rules.specs.Reported.{rule_of, byte_of}
 use Rattle.lustat_rules.specs.Faults.{IsJudged, FaultAt, AllKept}
 use Rattle.lustat_rules.proofs.Judging.{RuleFault, judged_same}
-use Rattle.lustat_faults.specs.Told.{Tells}
-use Rattle.lustat_faults.proofs.Telling.{TellsOne, tells_last, tells_more, tells_same}
+use Rattle.lustat_rules.specs.Told.{Tells}
+use Rattle.lustat_rules.proofs.Telling.{TellsOne, tells_last, tells_more, tells_same}
 use Rattle.lutype.specs.Asked.{is_asked}
 
 -- PROGRAM

@@ -5,15 +5,14 @@ ghost use Rattle.lutree.specs.Tree.{type_view, declaration_view, equation_view, 
 ghost use Rattle.lustat_rules.specs.Naming.{IsNewType, IsNewNode, IsNewVariable, HasMain, NamesKnown, CallsKnown, AritiesRight};
 ghost use Rattle.lustat_rules.specs.Typing.{MergesWhole, IsTyped};
 ghost use Rattle.lustat_rules.specs.Faults.{declared_in, lesser_of, IsJudged, ProgramFault, ProgramKept, TypeFault, TypeKept, NameFault, NameKept, NodeFault, NodeKept, DeclarationFault, DeclarationKept, EquationFault, EquationKept};
-ghost use Rattle.lustat_faults.specs.Told.{Tells};
+ghost use Rattle.lustat_rules.specs.Told.{Tells};
 ghost use Rattle.lutype.specs.Asked.{is_asked};
 
 use crate::{
     Definitions, arities_are_right, calls_are_known, declaration_is_known, defines_anew,
     is_defined, is_well_typed, merges_are_whole, names_are_known,
 };
-use lustat_faults::least_of;
-use lustat_rules::{Catalog, Scope, StatError, is_reported_before, reported};
+use lustat_rules::{Catalog, Scope, StatError, is_reported_before, least_of, reported};
 use lutree::{Declaration, DeclaredName, Equation, Node, TypeDeclaration};
 
 /// Whether a place that was found is another.

@@ -2,7 +2,7 @@
 
 ghost use Rattle.std.specs.Prelude.{◌≡◌, ◌↔◌, Some, IfOk};
 ghost use Rattle.lustat_rules.specs.declared.error.StatError.{StatError};
-ghost use Rattle.lustat_faults.specs.AllFaults.{AreAllFaults};
+ghost use Rattle.lustat_rules.specs.AllFaults.{AreAllFaults};
 ghost use Rattle.lutype.specs.First.{IsRecursionFault, IsNameFault};
 
 use crate::checked::byte_of_node;
@@ -11,8 +11,9 @@ use crate::search::NameStage;
 use crate::{
     CallOrder, Definitions, call_order, label_fault, name_fault, program_fault, type_fault,
 };
-use lustat_faults::{Survey, in_order, push_each, push_fault, push_faults};
-use lustat_rules::{Catalog, Scope, StatError};
+use lustat_rules::{
+    Catalog, Scope, StatError, Survey, in_order, push_each, push_fault, push_faults,
+};
 use lutree::{Declaration, DeclaredName, Equation, TypeDeclaration};
 use std::alloc::{AllocError, Global};
 

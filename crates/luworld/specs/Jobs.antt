@@ -4,7 +4,7 @@ use Rattle.std.specs.Prelude.{filter, flat_map, cond, List, [], ◌∷◌, lengt
 use Rattle.std.specs.Prelude.{slice_get, take, All, unwrap_or, position}
 use Rattle.std.specs.List.{range_with_len}
 use Rattle.std.specs.Option.{option_map}
-use Rattle.lulimits.specs.Limits.{most_instants}
+use Rattle.lubase.specs.Limits.{most_instants}
 use Rattle.luflow.specs.declared.message.Msg.{Msg}
 use Rattle.luflow.specs.declared.form.Form.TheVariants as forms
 use Rattle.luflow.specs.declared.form.Flow.{Flow}

@@ -2,7 +2,7 @@
 use Rattle.std.specs.Prelude.{◌≡◌, ◌↔◌, ℕ, ◌<◌, ◌≤◌, Bool, true, not, ◌&&◌, ◌==◌, List, [], length, map}
 use Rattle.std.specs.Prelude.{filter, flat_map, Some, slice_get, slice_index, Contains, unwrap_or}
 use Rattle.std.specs.List.{range_with_len, list_any}
-use Rattle.lulimits.specs.Limits.{most_sites, most_capacity}
+use Rattle.lubase.specs.Limits.{most_sites, most_capacity}
 use Rattle.luflow.specs.declared.form.Flow.{Flow}
 use Rattle.luflow.specs.Program.{FlatView, flow_at, places, clock_reads}
 use Rattle.luflow.specs.Flats.{IsFlat}

@@ -1,6 +1,6 @@
 -- How much of a grid has the solution's marks.
 use Rattle.std.specs.Prelude.{◌≡◌, ℕ, ◌<◌, ◌≤◌, slice_index}
-use Rattle.lulimits.specs.Limits.{most_instants}
+use Rattle.lubase.specs.Limits.{most_instants}
 use Rattle.luflow.specs.Program.{FlatView, InputsView, flows_of}
 use Rattle.luflow.specs.Solution.{solution}
 use Rattle.luworld.specs.Jobs.{JobView}

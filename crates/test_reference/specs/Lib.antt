@@ -3,3 +3,5 @@ pub mod Grids
 pub mod Filled
 pub mod AsItem
 pub mod Scripts
+pub mod Links
+pub mod Insides

@@ -1,7 +1,7 @@
 //! A grid of marks: a cell for each flow and instant.
 
 ghost use Rattle.std.specs.Prelude.{◌≡◌, ◌≤◌, ◌*◌, length};
-ghost use Rattle.lulimits.specs.Limits.{most_flows};
+ghost use Rattle.lubase.specs.Limits.{most_flows};
 
 use crate::mark::{Mark, Marks};
 use std::alloc::{AllocError, Global};

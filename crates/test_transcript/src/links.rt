@@ -81,7 +81,7 @@ fn over_channel<R: Threads + Wait + Sync>(
     requires capacity { 0 < task.capacity }
     requires list { list.now ≡ list_of job.now 0 }
 {
-    let Ok((tx, rx)) = test_channel_link::open_link(alloc, job, 0, task.capacity) else {
+    let Ok((tx, rx)) = test_reference::open_link(alloc, job, 0, task.capacity) else {
         return Err("no memory");
     };
     does(rt, Feeder { tx, list, at: 0 }, rx, list, task.case)

@@ -1,7 +1,7 @@
 //! Where the first fault of a program is, which operator of its text that is, and what it reads there.
 
 use lucore::flatten;
-use lufault::{FaultSite, FoundFault, fault_place, operator_at};
+use luinside::{FaultSite, FoundFault, fault_place, operator_at};
 use luflow::{Datum, FaultKind, Flat, Inputs, Values};
 use lustat::{Checked, check};
 use lusyn::read_program;

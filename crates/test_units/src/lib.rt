@@ -7,7 +7,7 @@
 //! - `surveys`: all faults of the first stage that has any (`lustat`).
 //! - `flats`: what a program that keeps all rules lends, and flat lists with their ranks and owners (`lustat`, `lucore`).
 //! - `inside`: instances of called nodes (`luinside`).
-//! - `faults`: where the first fault is, and which operator of the source that is (`lufault`).
+//! - `faults`: where the first fault is, and which operator of the source that is (`luinside`).
 //! - `operators`: operators at data of the wrong types and at nil (`lueval`).
 //! - `streams`: tables that fit a program, its streams and outputs (`luflow`, `lueval`).
 //! - `values`: lists of values (`luflow`).

@@ -74,7 +74,7 @@ impl Receives for lulink::Rx {
     }
 }
 
-impl Sends for test_channel_link::Tx {
+impl Sends for test_reference::Tx {
     ghost sent = { λ s. s };
 
     fn offers<R: Wait>(&mut self, rt: &R, msg: Msg) -> Offer {
@@ -94,7 +94,7 @@ impl Sends for test_channel_link::Tx {
     }
 }
 
-impl Receives for test_channel_link::Rx {
+impl Receives for test_reference::Rx {
     fn polls<R: Wait>(&mut self, rt: &R) -> Option<Msg> {
         self.poll(rt)
     }

@@ -5,7 +5,7 @@ use Rattle.lutree.specs.Tree as tree
 use Rattle.lutree.proofs.Views.{viewed-Binary, viewed-If, viewed-Call}
 use Rattle.lustat_rules.specs.Naming.{calls_in, calls_in_all}
 use Rattle.luinside.specs.Calls.{Passes}
-use Rattle.luinside.proofs.Passing.{lent, passes_both, passes_as, passes_more}
+use Rattle.luinside.proofs.CallsPassed.{lent, passes_both, passes_as, passes_more}
 use Rattle.luinside.proofs.texts.+texts.Goals as goal
 
 pub pass-returns-in-Binary : goal.pass-returns-in-Binary

@@ -7,7 +7,7 @@ use Rattle.lutree.specs.Tree.{view, equation_view, node_view}
 use Rattle.lustat_rules.specs.Naming.{calls_in}
 use Rattle.luinside.specs.declared.texts.Reached.TheVariants.{Left}
 use Rattle.luinside.specs.Calls.{calls_of, Passes}
-use Rattle.luinside.proofs.Passing.{equations_more, node_at, node_past}
+use Rattle.luinside.proofs.CallsPassed.{equations_more, node_at, node_past}
 use Rattle.luinside.proofs.texts.call_at.Goals as goal
 
 -- an equation of a node in memory

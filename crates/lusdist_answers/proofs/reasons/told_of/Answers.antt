@@ -2,7 +2,7 @@ use Rattle.std.proofs.Common.{◌≡◌, List, ℕ, Some, sym, subst, string_byt
 use Rattle.lutree.specs.Places.{places_view}
 use Rattle.lutree.specs.Tree.{program_view}
 use Rattle.luexplain.specs.declared.said.Explanation.{Explanation}
-use Rattle.lufault.specs.Told.{Tells}
+use Rattle.luinside.specs.Told.{Tells}
 use Rattle.lusdist_answers.proofs.Faulting.{ok_as, told_whole, told_by_equation}
 use Rattle.lusdist_answers.proofs.reasons.told_of.Goals as goal
 

@@ -7,7 +7,7 @@ use Rattle.lutree.specs.Tree.{program_view}
 use Rattle.lustat_rules.specs.Accepted.{Passes}
 use Rattle.lustat_rules.specs.declared.error.StatError.{StatError}
 use Rattle.lustat_rules.specs.Faults.{IsJudged}
-use Rattle.lustat_faults.specs.AllFaults.{AreAllFaults}
+use Rattle.lustat_rules.specs.AllFaults.{AreAllFaults}
 use Rattle.lustat_init.specs.Assigned.{LeftsKnown}
 use Rattle.lustat_init.specs.Faults.{AreKept, IsFault}
 use Rattle.lustat_init.specs.Rows.{IfKept, fault_of}

@@ -5,7 +5,7 @@ use Rattle.std.proofs.lemmas.Result.{IfOk-weaker}
 use Rattle.lutree.specs.declared.program.Program.{Program}
 use Rattle.lustat_rules.specs.declared.error.StatError.{StatError}
 use Rattle.lustat_rules.specs.Least.{IsLeastFault}
-use Rattle.lustat_faults.specs.AllFaults.{AreAllFaults}
+use Rattle.lustat_rules.specs.AllFaults.{AreAllFaults}
 use Rattle.lutype.specs.First.{IsNameFault}
 use Rattle.lustat.specs.AllFaults.{AreOfFirstStage, AreTold}
 use Rattle.lustat.proofs.Surveyed.{has_any}

@@ -4,7 +4,7 @@ use Rattle.lutree.specs.Tree.{program_view, node_view, declaration_view}
 use Rattle.lustat_rules.specs.Accepted.{Rule, DeclarationKeeps, not_a_clock, clocked_parameter, hidden_clock}
 use Rattle.lustat_rules.specs.declared.error.StatError.TheVariants.{NotAClock, ClockedParameter, HiddenClock}
 use Rattle.lustat_rules.specs.Faults.{declared_in}
-use Rattle.lustat_faults.proofs.Telling.{told_reported}
+use Rattle.lustat_rules.proofs.Telling.{told_reported}
 use Rattle.lustat_rules.proofs.Declared.{view_of_declared}
 use Rattle.lustat_rules.proofs.Keeping.{item_view}
 use Rattle.lustat_clocks.proofs.Places.{declaration_told}

@@ -1,5 +1,5 @@
 use Rattle.lustat_rules.specs.Faults.{EquationFault, EquationKept}
-use Rattle.lustat_faults.proofs.Telling.{judged_told}
+use Rattle.lustat_rules.proofs.Telling.{judged_told}
 use Rattle.lustat_clocks.specs.Asked.{is_asked}
 use Rattle.lustat_clocks.proofs.fault.equation_fault.Goals as goal
 

@@ -2,7 +2,7 @@ use Rattle.std.proofs.Common.{refl}
 use Rattle.lutree.specs.Tree.{program_view, node_view, equation_view}
 use Rattle.lustat_rules.specs.Accepted.{Rule, EquationKeeps, clock_mismatch, not_a_clock, clocked_parameter}
 use Rattle.lustat_rules.specs.declared.error.StatError.TheVariants.{ClockMismatch, NotAClock, ClockedParameter}
-use Rattle.lustat_faults.proofs.Telling.{told_reported}
+use Rattle.lustat_rules.proofs.Telling.{told_reported}
 use Rattle.lustat_clocks.proofs.Places.{equation_told}
 use Rattle.lustat_clocks.proofs.fault.equation_faults.Goals as goal
 

@@ -7,8 +7,8 @@ use Rattle.lustat_rules.specs.Accepted.{Rule, ProgramKeeps}
 use Rattle.lustat_rules.specs.declared.error.StatError.{StatError}
 use Rattle.lustat_rules.specs.Faults.{TypeFault, NameFault, NodeFault, DeclarationFault, EquationFault, IsFault}
 use Rattle.lustat_rules.specs.Stages.{BrokenInType, BrokenInside, BrokenIn}
-use Rattle.lustat_faults.specs.AllFaults.{AreAllFaults}
-use Rattle.lustat_faults.proofs.Ordering.{all_faults_same}
+use Rattle.lustat_rules.specs.AllFaults.{AreAllFaults}
+use Rattle.lustat_rules.proofs.Ordering.{all_faults_same}
 use Rattle.lustat_clocks.specs.Asked.{is_asked}
 use Rattle.lustat_clocks.proofs.Places.{silent_judged}
 use Rattle.lustat_clocks.proofs.survey.all_clock_faults.Goals as goal

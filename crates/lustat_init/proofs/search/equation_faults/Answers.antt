@@ -4,7 +4,7 @@ use Rattle.lutree.specs.Tree.{node_view, equation_view}
 use Rattle.lustat_rules.specs.Accepted.{Rule, maybe_nil, current_may_be_nil}
 use Rattle.lustat_rules.specs.Classes.{CurrentsStart}
 use Rattle.lustat_rules.specs.declared.error.StatError.TheVariants.{MaybeNil, CurrentMayBeNil}
-use Rattle.lustat_faults.proofs.Telling.{told_reported}
+use Rattle.lustat_rules.proofs.Telling.{told_reported}
 use Rattle.lustat_init.specs.Assigned.{assigned}
 use Rattle.lustat_init.specs.Faults.{EquationSays}
 use Rattle.lustat_init.proofs.Equations.{keeps_least, equation_told}

@@ -4,8 +4,8 @@ use Rattle.std.proofs.lemmas.Option.{slice_get_within}
 use Rattle.std.proofs.lemmas.Result.{IfOk-weaker}
 use Rattle.lustat_rules.specs.declared.error.StatError.{StatError}
 use Rattle.lustat_rules.specs.Stages.{BrokenIn}
-use Rattle.lustat_faults.specs.AllFaults.{AreAllFaults}
-use Rattle.lustat_faults.proofs.Ordering.{all_faults_same}
+use Rattle.lustat_rules.specs.AllFaults.{AreAllFaults}
+use Rattle.lustat_rules.proofs.Ordering.{all_faults_same}
 use Rattle.lustat_init.specs.Faults.{IsFault}
 use Rattle.lustat_init.proofs.Surveyed.{InType, InNode, only_nodes, all_nodes}
 use Rattle.lustat_init.proofs.survey.all_of_nodes.Goals as goal

@@ -1,5 +1,5 @@
 use Rattle.std.proofs.Common.{◌≤◌, length, drop}
-use Rattle.lulimits.specs.Limits.{most_names}
+use Rattle.lubase.specs.Limits.{most_names}
 use Rattle.lusyn_grammar.specs.Grammar.{Each}
 use Rattle.lusyn_parser.specs.Tables.{types_view}
 use Rattle.lusyn.specs.Texts.{HasLongType}

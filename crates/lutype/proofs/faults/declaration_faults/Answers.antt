@@ -2,7 +2,7 @@ use Rattle.std.proofs.Common.{refl}
 use Rattle.lutree.specs.Tree.{program_view, node_view, declaration_view}
 use Rattle.lustat_rules.specs.Accepted.{Rule, DeclarationKeeps, duplicate_name, unknown_name, undefined}
 use Rattle.lustat_rules.specs.declared.error.StatError.TheVariants.{DuplicateName, UnknownName, Undefined}
-use Rattle.lustat_faults.proofs.Telling.{told_reported}
+use Rattle.lustat_rules.proofs.Telling.{told_reported}
 use Rattle.lutype.proofs.Places.{declaration_told}
 use Rattle.lutype.proofs.faults.declaration_faults.Goals as goal
 

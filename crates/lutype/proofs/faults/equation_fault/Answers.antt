@@ -1,5 +1,5 @@
 use Rattle.lustat_rules.specs.Faults.{EquationFault, EquationKept}
-use Rattle.lustat_faults.proofs.Telling.{judged_told}
+use Rattle.lustat_rules.proofs.Telling.{judged_told}
 use Rattle.lutype.specs.Asked.{is_asked}
 use Rattle.lutype.proofs.faults.equation_fault.Goals as goal
 

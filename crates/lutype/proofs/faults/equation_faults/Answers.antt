@@ -2,7 +2,7 @@ use Rattle.std.proofs.Common.{refl}
 use Rattle.lutree.specs.Tree.{program_view, node_view, equation_view}
 use Rattle.lustat_rules.specs.Accepted.{Rule, EquationKeeps, unknown_name, unknown_node, type_mismatch, wrong_arity, defined_twice, bad_merge}
 use Rattle.lustat_rules.specs.declared.error.StatError.TheVariants.{UnknownName, UnknownNode, TypeMismatch, WrongArity, DefinedTwice, BadMerge}
-use Rattle.lustat_faults.proofs.Telling.{told_reported}
+use Rattle.lustat_rules.proofs.Telling.{told_reported}
 use Rattle.lutype.proofs.Places.{equation_told}
 use Rattle.lutype.proofs.faults.equation_faults.Goals as goal
 

@@ -7,10 +7,10 @@ use Rattle.lustat_rules.specs.Accepted.{ProgramKeeps, no_main}
 use Rattle.lustat_rules.specs.declared.error.StatError.{StatError}
 use Rattle.lustat_rules.specs.Faults.{ProgramFault, ProgramKept, TypeFault, NameFault, NodeFault, DeclarationFault, EquationFault}
 use Rattle.lustat_rules.specs.Stages.{BrokenInType, BrokenInside, BrokenIn}
-use Rattle.lustat_faults.specs.AllFaults.{AreAllFaults, Gains}
-use Rattle.lustat_faults.proofs.Gaining.{gains_same, gains_then}
-use Rattle.lustat_faults.proofs.Ordering.{all_of_gained}
-use Rattle.lustat_faults.proofs.Telling.{gains_only}
+use Rattle.lustat_rules.specs.AllFaults.{AreAllFaults, Gains}
+use Rattle.lustat_rules.proofs.Gaining.{gains_same, gains_then}
+use Rattle.lustat_rules.proofs.Ordering.{all_of_gained}
+use Rattle.lustat_rules.proofs.Telling.{gains_only}
 use Rattle.lutype.specs.Asked.{is_asked}
 use Rattle.lutype.specs.First.{IsRecursionFault, IsNameFault}
 use Rattle.lutype.proofs.Places.{program_only}

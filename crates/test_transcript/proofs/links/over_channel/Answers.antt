@@ -1,6 +1,6 @@
 use denote.Param.Send.{sendable}
 use Rattle.std.proofs.Crossing.{crosses}
-use Rattle.test_channel_link.proofs.Crosses.{tx_send, rx_send, tx_field_send, rx_field_send}
+use Rattle.test_reference.proofs.Crosses.{tx_send, rx_send, tx_field_send, rx_field_send}
 use Rattle.test_transcript.proofs.links.over_channel.Goals as goal
 
 pub does-requires-send-S : goal.does-requires-send-S

@@ -2,8 +2,8 @@ use Rattle.std.proofs.Common.{Some, Contains}
 use Rattle.std.proofs.lemmas.Result.{IfOk-weaker}
 use Rattle.lustat_rules.specs.declared.error.StatError.{StatError}
 use Rattle.lustat_rules.specs.Faults.{EquationFault, EquationKept}
-use Rattle.lustat_faults.specs.AllFaults.{Gains}
-use Rattle.lustat_faults.proofs.Telling.{gains_told}
+use Rattle.lustat_rules.specs.AllFaults.{Gains}
+use Rattle.lustat_rules.proofs.Telling.{gains_told}
 use Rattle.lustat_clocks.specs.Asked.{is_asked}
 use Rattle.lustat_clocks.proofs.survey.ClockStageSurvey.push_equation_faults.Goals as goal
 

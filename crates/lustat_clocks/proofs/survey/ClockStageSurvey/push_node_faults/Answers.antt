@@ -1,7 +1,7 @@
 use Rattle.lutree.specs.Tree.{node_view, program_view}
 use Rattle.lustat_rules.specs.Accepted.{Rule, NodeKeeps}
 use Rattle.lustat_rules.specs.Faults.{NodeFault}
-use Rattle.lustat_faults.proofs.Gaining.{gains_none}
+use Rattle.lustat_rules.proofs.Gaining.{gains_none}
 use Rattle.lustat_clocks.specs.Asked.{is_asked}
 use Rattle.lustat_clocks.proofs.Places.{silent_judged}
 use Rattle.lustat_clocks.proofs.survey.ClockStageSurvey.push_node_faults.Goals as goal

@@ -1,7 +1,7 @@
 use Rattle.lutree.specs.Tree.{type_view, program_view}
 use Rattle.lustat_rules.specs.Accepted.{Rule, TypeKeeps}
 use Rattle.lustat_rules.specs.Faults.{TypeFault}
-use Rattle.lustat_faults.proofs.Gaining.{gains_none}
+use Rattle.lustat_rules.proofs.Gaining.{gains_none}
 use Rattle.lustat_clocks.specs.Asked.{is_asked}
 use Rattle.lustat_clocks.proofs.Places.{silent_judged}
 use Rattle.lustat_clocks.proofs.survey.ClockStageSurvey.push_type_faults.Goals as goal

@@ -1,4 +1,4 @@
-use Rattle.lustat_faults.proofs.Telling.{judged_told}
+use Rattle.lustat_rules.proofs.Telling.{judged_told}
 use Rattle.lustat_init.specs.Faults.{EquationKept, EquationFault}
 use Rattle.lustat_init.proofs.search.ClassStageStage.equation_fault.Goals as goal
 

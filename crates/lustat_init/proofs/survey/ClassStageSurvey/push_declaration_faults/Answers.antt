@@ -1,4 +1,4 @@
-use Rattle.lustat_faults.proofs.Gaining.{gains_none}
+use Rattle.lustat_rules.proofs.Gaining.{gains_none}
 use Rattle.lustat_init.proofs.survey.ClassStageSurvey.push_declaration_faults.Goals as goal
 
 pub returns : goal.returns

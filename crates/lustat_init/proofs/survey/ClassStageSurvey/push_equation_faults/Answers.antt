@@ -1,7 +1,7 @@
 use Rattle.std.proofs.Common.{Some, Contains}
 use Rattle.std.proofs.lemmas.Result.{IfOk-weaker}
-use Rattle.lustat_faults.specs.AllFaults.{Gains}
-use Rattle.lustat_faults.proofs.Telling.{gains_told}
+use Rattle.lustat_rules.specs.AllFaults.{Gains}
+use Rattle.lustat_rules.proofs.Telling.{gains_told}
 use Rattle.lustat_init.specs.Faults.{EquationKept, EquationFault}
 use Rattle.lustat_init.proofs.survey.ClassStageSurvey.push_equation_faults.Goals as goal
 

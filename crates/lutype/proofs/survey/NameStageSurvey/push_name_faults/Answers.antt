@@ -4,8 +4,8 @@ use Rattle.lutree.specs.Tree.{program_view, type_view}
 use Rattle.lustat_rules.specs.Accepted.{Rule, NameKeeps, duplicate_name}
 use Rattle.lustat_rules.specs.Faults.{NameFault, NameKept}
 use Rattle.lustat_rules.specs.declared.error.StatError.{StatError}
-use Rattle.lustat_faults.specs.AllFaults.{Gains}
-use Rattle.lustat_faults.proofs.Telling.{gains_only}
+use Rattle.lustat_rules.specs.AllFaults.{Gains}
+use Rattle.lustat_rules.proofs.Telling.{gains_only}
 use Rattle.lutype.specs.Asked.{is_asked}
 use Rattle.lutype.proofs.Places.{name_only}
 use Rattle.lutype.proofs.survey.NameStageSurvey.push_name_faults.Goals as goal

@@ -5,8 +5,8 @@ use Rattle.lutree.specs.Tree.{program_view, node_view}
 use Rattle.lustat_rules.specs.Accepted.{Rule, NodeKeeps, duplicate_name}
 use Rattle.lustat_rules.specs.Faults.{IsJudged, NodeFault, NodeKept}
 use Rattle.lustat_rules.specs.declared.error.StatError.{StatError}
-use Rattle.lustat_faults.specs.AllFaults.{Gains}
-use Rattle.lustat_faults.proofs.Telling.{gains_only}
+use Rattle.lustat_rules.specs.AllFaults.{Gains}
+use Rattle.lustat_rules.proofs.Telling.{gains_only}
 use Rattle.lutype.specs.Asked.{is_asked}
 use Rattle.lutype.proofs.Places.{name_only}
 use Rattle.lutype.proofs.survey.NameStageSurvey.push_node_faults.Goals as goal

@@ -1,2 +1,0 @@
-mod Repeats
-pub mod Spelled

@@ -1,5 +1,0 @@
-use Rattle.lustart.proofs.Spelled.{first_table_law}
-use Rattle.lustart.proofs.laws.first_table_law.Goals as goal
-
-pub returns : goal.returns
-returns c = first_table_law

@@ -1,7 +1,0 @@
-use Rattle.std.proofs.Common.{string_bytes}
-use Rattle.lustart.proofs.Repeats.{repeat_more}
-use Rattle.lustart.proofs.table.put_lines.Goals as goal
-
-pub loop-preserved : goal.loop-preserved
-loop-preserved c =
-    repeat_more c.loop.counter (string_bytes c.args.text.now) (string_bytes c.loop.text) (string_bytes c.push_str.new.self) c.args.line.now c.loop.invariant c.in_ok-push_str.ensures.bytes

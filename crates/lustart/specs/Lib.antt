@@ -1,2 +1,0 @@
-pub mod Placement
-pub mod Table

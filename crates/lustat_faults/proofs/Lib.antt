@@ -1,3 +1,0 @@
-pub mod Gaining
-pub mod Ordering
-pub mod Telling

@@ -1,2 +1,0 @@
-pub mod AllFaults
-pub mod Told

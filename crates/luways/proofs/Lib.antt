@@ -1,6 +1,0 @@
-pub mod Listed
-pub mod Growing
-pub mod Cycles
-pub mod Least
-pub mod Ending
-pub mod Unique

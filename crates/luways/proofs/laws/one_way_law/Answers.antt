@@ -1,5 +1,0 @@
-use Rattle.luways.proofs.Unique.{one_way}
-use Rattle.luways.proofs.laws.one_way_law.Goals as goal
-
-pub returns : goal.returns
-returns c = one_way

@@ -1,6 +1,0 @@
-use Rattle.std.proofs.Common.{◌≡◌, take}
-use Rattle.luways.specs.Layers.{away}
-use Rattle.luways.proofs.layers.away.Given as goal
-
-abbrev pub invariant-loop-r : goal.invariant-loop-r
-invariant-loop-r l = l.those.items ≡ away l.plan l.i (take l.r-index l.reads)

@@ -1,5 +1,0 @@
-use Rattle.luways.specs.Layers.{second_row, HasMore}
-use Rattle.luways.proofs.layers.put_second.Given as goal
-
-abbrev pub invariant-loop-i : goal.invariant-loop-i
-invariant-loop-i l = HasMore (second_row l.plan) l.i l.initial.rows.items l.rows.items

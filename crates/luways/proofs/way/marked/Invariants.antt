@@ -1,6 +1,0 @@
-use Rattle.std.proofs.Common.{◌≡◌}
-use Rattle.luways.specs.Sent.{marked}
-use Rattle.luways.proofs.way.marked.Given as goal
-
-abbrev pub invariant-loop-v : goal.invariant-loop-v
-invariant-loop-v l = l.places.items ≡ marked l.marks l.from l.v

@@ -1,5 +1,0 @@
-use Rattle.luways.specs.Sent.{AreSentNils}
-use Rattle.luways.proofs.way.sent_nils.Given as goal
-
-abbrev pub invariant-loop-link : goal.invariant-loop-link
-invariant-loop-link l = AreSentNils l.plan l.nils l.link-index l.marks.items
