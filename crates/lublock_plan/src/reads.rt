@@ -1,55 +1,12 @@
 //! What a flow reads, at its own instant or before, one after another.
 
-use luflow::{Clock, Flat, Form};
-
-/// Number k of what a form reads, but for what a clock asks for.
-fn operand_of(form: &Form, k: usize) -> Option<usize> {
-    match form {
-        Form::Input(_) | Form::Constant(_) => None,
-        Form::Copied(a) | Form::Unary(_, a) | Form::Pre(a) | Form::When(a) | Form::Current(a) => {
-            one_of(*a, *a, *a, 1, k)
-        }
-        Form::Binary(_, a, b) | Form::Arrow(a, b) => one_of(*a, *b, *b, 2, k),
-        Form::If(c, a, b) => one_of(*c, *a, *b, 3, k),
-        Form::Merge(c, branches) => {
-            if k == 0 {
-                return Some(*c);
-            }
-            match branches.as_slice().get(k - 1) {
-                Some(x) => Some(*x),
-                None => None,
-            }
-        }
-    }
-}
-
-/// Number k of the first `count` of three.
-fn one_of(a: usize, b: usize, c: usize, count: usize, k: usize) -> Option<usize> {
-    if count <= k {
-        return None;
-    }
-    if k == 0 {
-        Some(a)
-    } else if k == 1 {
-        Some(b)
-    } else {
-        Some(c)
-    }
-}
-
-/// The variable of a clock.
-fn variable_of(clock: Clock) -> Option<usize> {
-    match clock {
-        Clock::Base => None,
-        Clock::On(c, _) => Some(c),
-    }
-}
+use luflow::{Flat, Form};
 
 /// The variable of the clock that a `current` fills up.
 fn filled_of(flat: &Flat, form: &Form) -> Option<usize> {
     match form {
         Form::Current(a) => match flat.flows().get(*a) {
-            Some(flow) => variable_of(flow.clock),
+            Some(flow) => flow.clock.variable(),
             None => None,
         },
         _ => None,
@@ -61,7 +18,7 @@ pub fn read_of(flat: &Flat, i: usize, k: usize) -> Option<usize> {
     let Some(flow) = flat.flows().get(i) else {
         return None;
     };
-    let clock = variable_of(flow.clock);
+    let clock = flow.clock.variable();
     let filled = filled_of(flat, &flow.form);
     if k == 0 && clock.is_some() {
         return clock;
@@ -71,7 +28,7 @@ pub fn read_of(flat: &Flat, i: usize, k: usize) -> Option<usize> {
         return filled;
     }
     let k = if filled.is_some() { k - 1 } else { k };
-    operand_of(&flow.form, k)
+    flow.form.operand(k)
 }
 
 /// Whether a flow reads itself, before.

@@ -6,7 +6,7 @@ use Rattle.luflow.specs.Program.{FlatView, flows_of}
 use Rattle.luworld.specs.Needs.{PlanView, home, sites_of, stands}
 use Rattle.luworld.specs.Jobs.{carried, link_into, outputs_of}
 use Rattle.lublock_kernels.specs.Parts.{IsPart, IsNeverNil, knows}
-use Rattle.lublock_plan.specs.Classes.{class_in}
+use Rattle.luplace.specs.Classes.{class_in}
 use Rattle.lublock_site.specs.Marks.{marked, marked_part}
 use Rattle.lublock_site.specs.declared.code.CodeParts.{CodeParts}
 use Rattle.lublock_site.specs.declared.code.SiteCode.{SiteCode}

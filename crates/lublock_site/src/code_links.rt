@@ -3,10 +3,8 @@
 ghost use Rattle.std.specs.Prelude.{◌≡◌, All, IfOk, IfSome};
 ghost use Rattle.lublock_site.specs.Codes.{AreNeverNil, IsMarkedLink, IsSentLink};
 
-use crate::classes::are_classes;
 use crate::parts::is_marked;
-use lublock_plan::{class_in, never_nil_guess};
-use luplace::Plan;
+use luplace::{Plan, class_in, least_nils};
 use std::alloc::{AllocError, Global};
 
 /// A link by its number, and the flow that it carries.
@@ -105,10 +103,7 @@ pub fn links_out(
     ensures { IfOk result (λ o. IfSome o (λ links. All (IsSentLink plan.now own.now) links.items)) }
 {
     let flat = plan.flat();
-    let guess = never_nil_guess(alloc, flat)?;
-    let nils = guess.as_slice();
-    if !are_classes(flat, nils) {
-        return Ok(None);
-    }
-    links_by(alloc, plan, site, nils, own)
+    flat.recall_invariant();
+    let nils = least_nils(alloc, flat)?;
+    links_by(alloc, plan, site, &nils, own)
 }

@@ -1,13 +1,11 @@
 //! Which flows a site computes and which it takes, and which variables it keeps statuses of.
 
-ghost use Rattle.std.specs.Prelude.{◌≡◌, ◌<◌, ℕ, IfOk, IfSome, length, slice_index, true};
+ghost use Rattle.std.specs.Prelude.{◌≡◌, ◌<◌, ℕ, IfOk, IfSome, length, true};
 ghost use Rattle.luflow.specs.Variables.{is_output_of};
-ghost use Rattle.luworld.specs.Needs.{home};
 ghost use Rattle.lublock_site.specs.Marks.{marked};
 ghost use Rattle.lublock_site.specs.Codes.{AreKnown, AreOwnMarks, AreSiteMarks, AreTakenMarks, output_at, outputs_at};
 
 use crate::parts::{is_marked, is_part};
-use lubase::number_at;
 use lublock_plan::needed_of;
 use luflow::Flat;
 use luplace::Plan;
@@ -86,27 +84,6 @@ pub fn marks_of(alloc: Global, plan: &Plan, site: u8) -> Result<Option<Marks>, A
     Ok(Some(Marks { own, taken }))
 }
 
-fn first_of(sites: &[u8]) -> u8
-    ensures { result ≡ slice_index sites.now 0 }
-{
-    match sites.get(0) {
-        Some(site) => *site,
-        None => 0,
-    }
-}
-
-/// The site that sends a flow and reports it.
-fn home(plan: &Plan, place: usize) -> u8
-    ensures { result ≡ home plan.now place }
-{
-    let variable = number_at(plan.flat().owners(), place);
-    if variable < plan.flat().variables().len() {
-        first_of(plan.sites_of(variable))
-    } else {
-        0
-    }
-}
-
 /// Whether a main variable is an output.
 fn is_output(flat: &Flat, v: usize) -> bool
     ensures { result ≡ is_output_of flat.now v }
@@ -121,7 +98,7 @@ fn is_output(flat: &Flat, v: usize) -> bool
 fn output_at(plan: &Plan, site: u8, v: usize) -> Option<usize>
     ensures { result ≡ output_at plan.now site v }
 {
-    if home(plan, v) == site { Some(v) } else { None }
+    if plan.home(v) == site { Some(v) } else { None }
 }
 
 /// For each output of the main node, in order of declaration, its variable where the site is its home.

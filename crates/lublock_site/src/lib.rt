@@ -4,13 +4,11 @@
 //! - [`RowStation`]: a site with its inputs and the ends of its links, which goes on by blocks.
 //! - [`laws`]: a site's flows are a part of the program, and a link's messages are its flow's data.
 //! - [`parts::is_part`]: a test of whether some flows are a part.
-//! - [`classes::are_classes`]: a test of which flows are never nil.
 //! - `columns`, `sure`: the words of own flows, and which flows are sure.
 //! - `sources`, `outlets`: from the ends of links into rows, and from rows to the ends of links.
 #![tactic(auto)]
 
 mod block;
-pub mod classes;
 mod close;
 mod code;
 mod code_links;

@@ -4,3 +4,4 @@ mod FirstFaults
 pub mod Listing
 mod Steps
 mod Wanting
+mod Ranking

@@ -33,7 +33,8 @@ use Rattle.lueval_lines.proofs.Reading.{clock_read}
 use Rattle.lueval_lines.proofs.Faults.{equation, fault_broken, fault_within}
 use Rattle.lueval_lines.proofs.Lines.{looked_inside}
 use Rattle.lueval_lines.proofs.Spans.{slice_get-set_other, slice_get-set_same}
-use Rattle.lueval_lines.proofs.Seeing.{value_seen, cell_shown, last_newest, tick_newest}
+use Rattle.lueval_lines.proofs.Seeing.{cell_shown, last_newest, tick_newest}
+use Rattle.lueval_lines.proofs.SlotValues.{IsLooked, IsSeen, same_form, value_seen}
 
 known_sound : (s : Status) (m : Mark) → m ≡ Known s → m ≢ Broken
 known_sound s m e h = cc
@@ -69,11 +70,18 @@ module _ (flat : FlatView) (inputs : InputsView) (σ : Streams) (is_flat : IsFla
 
     pub value_here : (i : ℕ) (flow : Flow) → p < length flat.order → i ≡ slice_index flat.order p → flow_at flat i ≡ Some flow → value_at inputs σ flow.clock flow.form t ≡ value_of flow.form (view_of (given_at inputs t) shown lasts i)
     value_here i flow lp e is =
-        value_seen flat inputs σ i t flow flow.form shown lasts (record {
-          there = is;
-          reads = all_left (IsShown σ shown t) (form_reads flow.form) (clock_reads flow.clock) (reads_shown i flow lp e is);
-          back = stands.kept i flow is;
+        let here : ℕ → ℕ = λ r. r in
+        let seen : (r : ℕ) → IsShown σ shown t r → IsSeen σ here shown t r = λ r w. record { status = w.status; there = w.there; is = w.is } in
+        value_seen flat inputs σ here shown lasts t flow.clock flow.form i i (given_at inputs t) refl (record {
+          reads = All-weaker (IsShown σ shown t) (IsSeen σ here shown t) seen (form_reads flow.form) (all_left (IsShown σ shown t) (form_reads flow.form) (clock_reads flow.clock) (reads_shown i flow lp e is));
+          back = λ r one. looked r (first_of_all (IsLast flat inputs σ lasts t) r [] (subst (All (IsLast flat inputs σ lasts t)) one (stands.kept i flow is)));
+          clock = sym (ap (λ (o : Option Flow). ticked (clock_of_flow inputs σ o) t) is);
+          input = λ c _. refl;
         })
+        ∙ ap (λ f. value_of f (view_of (given_at inputs t) shown lasts i)) (same_form flow.form)
+      where
+        looked : (r : ℕ) → IsLast flat inputs σ lasts t r → IsLooked flat inputs σ (λ k. k) lasts t r
+        looked r w = record { cell = w.cell; there = w.there; last = w.last; ticks = w.ticks }
 
     -- nothing that it looks at is broken, so its value is not stuck
     pub not_stuck : (i : ℕ) (flow : Flow) → p < length flat.order → i ≡ slice_index flat.order p → flow_at flat i ≡ Some flow → t < inputs.instants → clock_at inputs σ flow.clock t ≡ Some true → value_at inputs σ flow.clock flow.form t ≡ Stuck → ⊥

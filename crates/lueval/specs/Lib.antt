@@ -2,3 +2,4 @@ pub mod Faults
 pub mod Reads
 pub mod Steps
 pub mod Whole
+pub mod Ranked

@@ -10,6 +10,7 @@ mod evaluator;
 mod faults;
 mod flows;
 mod machine;
+mod ranked;
 
 pub use evaluator::{fault_place, whole, whole_columns, whole_flows, whole_outputs};
 pub use faults::{FoundFault, Reads};

@@ -9,3 +9,8 @@ pub mod Seeing
 pub mod Spans
 pub mod Reported
 mod Unders
+pub mod SlotValues
+pub mod Spanning
+pub mod Ordering
+pub mod Worked
+pub mod Elements

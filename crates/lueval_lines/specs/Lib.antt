@@ -4,3 +4,6 @@ pub mod Operations
 pub mod Cells
 pub mod Columns
 pub mod Outputs
+pub mod OrderedLines
+pub mod Quicks
+pub mod Works

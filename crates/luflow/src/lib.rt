@@ -17,6 +17,7 @@ mod form;
 pub mod laws;
 mod message;
 mod outputs;
+mod reads;
 mod table;
 mod values;
 mod variable;

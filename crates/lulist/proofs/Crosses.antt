@@ -8,10 +8,11 @@ use Rattle.luflow.proofs.values.Values.TheSendSync as values
 use Rattle.luplace.specs.contracts.job.SiteInputs as SiteInputs
 use Rattle.luplace.specs.contracts.job.SiteInputs.TheInside as inputs
 use Rattle.lueval_lines.proofs.cell.Cell.TheSendSync as cell
-use Rattle.lulist.proofs.flows.ListRow.TheSendSync as row
+use Rattle.lueval_lines.proofs.ordered.OrderedLine.TheSendSync as row
 use Rattle.lulist.proofs.linking.ListLink.TheSendSync as link
 use Rattle.lulist.proofs.ends.Source.TheSendSync as source
 use Rattle.lulist.proofs.ends.Outlet.TheSendSync as outlet
+use Rattle.lueval_lines.specs.contracts.ordered.OrderedLines as OrderedLines
 use Rattle.lulist.specs.contracts.flows.OrderedFlows as OrderedFlows
 use Rattle.lulist.specs.contracts.code.ListCode as ListCode
 use Rattle.lulist.specs.contracts.code.ListCode.TheInside as code
@@ -30,14 +31,17 @@ inputs_send = search (sendable, inside_inputs)
 inputs_field_send : IsSend SiteInputs.the_field.row
 inputs_field_send = inputs_send
 
+lines_field_send : IsSend OrderedLines.the_field.row
+lines_field_send = struct_send (shape OrderedLines.the_type) (search (sendable, crosses, row.the_send) depth 12, (search (sendable, crosses) depth 12, (search (sendable, crosses) depth 12, tt)))
+
 flows_field_send : IsSend OrderedFlows.the_field.row
 flows_field_send =
-    struct_send (shape OrderedFlows.the_type) (search (sendable, crosses, row.the_send) depth 12, (search (sendable, crosses) depth 12, (search (sendable, crosses) depth 12, (search (sendable, crosses) depth 12, (search (sendable, crosses) depth 12, (search (sendable, crosses) depth 12, (search sendable, (search (sendable, crosses, option.the_send) depth 12, tt))))))))
+    struct_send (shape OrderedFlows.the_type) (lines_field_send, (search (sendable, crosses) depth 12, (search (sendable, crosses) depth 12, (search (sendable, crosses) depth 12, (search sendable, (search (sendable, crosses, option.the_send) depth 12, tt))))))
 
 inside_code : IsSend code.the_row
 inside_code =
     recorded_send code.the_field.row _ _ code.the_type.to_one
-    (struct_send (shape code.the_type) (search sendable, (search sendable, (flows_field_send, (search (sendable, crosses, link.the_send) depth 12, (search (sendable, crosses, link.the_send) depth 12, (search (sendable, crosses) depth 12, (search (sendable, crosses) depth 12, tt))))))))
+    (struct_send (shape code.the_type) (search sendable, (search sendable, (flows_field_send, (search (sendable, crosses, link.the_send) depth 12, (search (sendable, crosses, link.the_send) depth 12, (search (sendable, crosses) depth 12, (search (sendable, crosses) depth 12, (search (sendable, crosses) depth 12, (search (sendable, crosses) depth 12, tt))))))))))
 
 pub code_send : IsSend ListCode.the_row
 code_send = search (sendable, inside_code)
@@ -47,7 +51,7 @@ code_field_send = code_send
 
 site_field_send : IsSend ListSite.the_field.row
 site_field_send =
-    struct_send (shape ListSite.the_type) (inputs_field_send, (flows_field_send, (search (sendable, crosses, cell.the_send) depth 12, (search (sendable, crosses, cell.the_send) depth 12, (search (sendable, crosses, source.the_send) depth 12, (search (sendable, crosses, outlet.the_send) depth 12, (search (sendable, crosses) depth 12, (search (sendable, crosses, status.the_send) depth 12, (search (sendable, crosses) depth 12, (search sendable, (search sendable, (search sendable, tt))))))))))))
+    struct_send (shape ListSite.the_type) (inputs_field_send, (flows_field_send, (search (sendable, crosses, cell.the_send) depth 12, (search (sendable, crosses, cell.the_send) depth 12, (search (sendable, crosses, source.the_send) depth 12, (search (sendable, crosses, outlet.the_send) depth 12, (search (sendable, crosses) depth 12, (search (sendable, crosses, status.the_send) depth 12, (search (sendable, crosses) depth 12, (search (sendable, crosses) depth 12, (search (sendable, crosses) depth 12, (search sendable, (search sendable, (search sendable, tt))))))))))))))
 
 inside_station : IsSend station.the_row
 inside_station =

@@ -14,7 +14,7 @@ use Rattle.lueval_lines.specs.declared.cell.Cell.{Cell}
 use Rattle.lueval_lines.specs.declared.cell.Cell.TheVariants as cells
 use Rattle.lueval_lines.specs.Cells.{clock_of, held, statuses, status_of}
 use Rattle.lueval_lines.specs.Frames.{clock_in}
-use Rattle.lulist.specs.declared.flows.ListRow.{ListRow}
+use Rattle.lueval_lines.specs.declared.ordered.OrderedLine.{OrderedLine}
 use Rattle.lulist.specs.declared.ends.Came.TheVariants.{Value, Nothing}
 use Rattle.lulist.specs.declared.ends.Source.{Source}
 use Rattle.lulist.specs.declared.ends.Outlet.{Outlet}
@@ -51,7 +51,7 @@ pub going_none : (x : ListSite) (e next : ℕ) (s y : Source) (sources' : Vec So
 going_none x e next s y sources' going there new h = going_sources x sources' going (λ n source at.
     each_set (IsSource x.inputs.job x.flows.places.items) x.sources.items e y going.sources (source_still x.inputs.job x.flows.places.items s y next (going.sources e s there) h) n source (ap (λ (xs : List Source). slice_get xs n) (sym new) ∙ at))
 
-module _ (x : ListSite) (going : IsListing x) (early : x.t < x.inputs.job.inputs.instants) (row : ListRow) (here : slice_get x.flows.rows.items x.at ≡ Some row) (e : ℕ) (s : Source) (there : slice_get x.sources.items e ≡ Some s) (at : s.row ≡ x.at) (done : s.done ≡ x.t) (unclosed : s.closed ≡ false) where
+module _ (x : ListSite) (going : IsListing x) (early : x.t < x.inputs.job.inputs.instants) (row : OrderedLine) (here : slice_get x.flows.lines.rows.items x.at ≡ Some row) (e : ℕ) (s : Source) (there : slice_get x.sources.items e ≡ Some s) (at : s.row ≡ x.at) (done : s.done ≡ x.t) (unclosed : s.closed ≡ false) where
   abbrev job : JobView
   job = x.inputs.job
 

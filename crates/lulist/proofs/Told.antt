@@ -28,7 +28,7 @@ use Rattle.lulist.specs.declared.site.ListSite.{ListSite}
 use Rattle.lulist.specs.Rows.{IsNumbered, reported_number}
 use Rattle.lulist.specs.Stations.{AreOutputRows, IsOutputRow}
 use Rattle.lulist.specs.Lists.{IsListing}
-use Rattle.lulist.proofs.Elements.{push_each}
+use Rattle.lueval_lines.proofs.Elements.{push_each}
 
 and_both : (a b : Bool) → (a && b) ≡ true → (a ≡ true) × (b ≡ true)
 and_both true b h = (refl, h)

@@ -4,9 +4,6 @@ pub mod Rows
 pub mod Turns
 pub mod Lists
 pub mod Starts
-pub mod Spans
-pub mod Works
-pub mod Quicks
 pub mod Stations
 pub mod Codes
 pub mod Insides

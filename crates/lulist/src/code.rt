@@ -6,7 +6,7 @@ ghost use Rattle.lulink.specs.Views.{IsUnusedReceiver, IsUnusedSender};
 ghost use Rattle.lulist.specs.Lists.{IsListing};
 
 use crate::flows::OrderedFlows;
-use crate::linking::{Direction, ListLink, is_of, linked, links_of, queue_of};
+use crate::linking::{Direction, ListLink, is_of, links_of, queue_of, runs_by_row, sources_by_row};
 use crate::making::ordered_flows;
 use crate::order::list_order;
 use crate::outputs::noted_of;
@@ -33,6 +33,9 @@ pub struct ListCode {
     noted: Vec<usize>,
     /// The sending ends in order of their flows.
     queue: Vec<usize>,
+    /// By number of a flow, the receiving end that brings it, and behind which flow those end that can be worked out at once with it.
+    row_sources: Vec<usize>,
+    row_runs: Vec<usize>,
 }
 
 // By hand, so that it is proved here alone, and not in each crate that owns one.
@@ -46,6 +49,8 @@ impl Drop for ListCode {
             sent: _,
             noted: _,
             queue: _,
+            row_sources: _,
+            row_runs: _,
         } = self;
     }
 }
@@ -104,9 +109,10 @@ impl ListCode {
         let Some(sent) = links_of(alloc, plan, site, &flows, Direction::Out)? else {
             return Ok(None);
         };
-        let flows = linked(alloc, flows, &brought, &sent)?;
         let noted = noted_of(alloc, &flows.reported)?;
         let queue = queue_of(alloc, &sent)?;
+        let row_sources = sources_by_row(alloc, flows.places.len(), &brought)?;
+        let row_runs = runs_by_row(alloc, &flows.lines.rows, &sent)?;
         Ok(Some(ListCode {
             plan: Snapshot::of(plan),
             site,
@@ -115,6 +121,8 @@ impl ListCode {
             sent,
             noted,
             queue,
+            row_sources,
+            row_runs,
         }))
     }
 
@@ -146,6 +154,8 @@ impl ListCode {
             sent,
             noted,
             queue,
+            row_sources,
+            row_runs,
         } = self;
         let Some(sources) = sources_of(alloc, &brought, rxs)? else {
             return Ok(None);
@@ -168,6 +178,8 @@ impl ListCode {
             noted,
             logs,
             queue,
+            row_sources,
+            row_runs,
             t: 0,
             at: 0,
             out: 0,

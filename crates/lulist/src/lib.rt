@@ -10,14 +10,11 @@ mod making;
 mod order;
 mod outputs;
 mod putting;
-mod quick;
 mod site;
-mod spans;
 mod start;
 mod station;
 mod taking;
 mod turning;
-mod working;
 
 pub use code::ListCode;
 pub use station::ListStation;

@@ -1,12 +1,11 @@
 //! The links of a site, and what they say of its flows: which of them links bring, and which are sent.
 
-ghost use Rattle.std.specs.Prelude.{◌≡◌, ◌<◌, ℕ, length, All, IfOk, IfSome};
-ghost use Rattle.luworld.specs.Needs.{PlanView};
-ghost use Rattle.lulist.specs.Rows.{AreOrderedFlows};
-ghost use Rattle.lulist.specs.Starts.{AreSameLines, IsListLink};
+ghost use Rattle.std.specs.Prelude.{All, IfOk, IfSome};
+ghost use Rattle.lulist.specs.Starts.{IsListLink};
 
 use crate::fitting::{is_numbered, number_of};
-use crate::flows::{ListRow, OrderedFlows};
+use crate::flows::OrderedFlows;
+use lueval_lines::OrderedLine;
 use luplace::Plan;
 use luworld::Link;
 use std::alloc::{AllocError, Global};
@@ -77,60 +76,24 @@ pub fn links_of(
     Ok(Some(links))
 }
 
-/// The receiving end that brings flow k.
-fn set_source(rows: &mut Vec<ListRow>, k: usize, e: usize)
-    ensures lines { AreSameLines rows.old.items rows.new.items }
-    ensures len { length rows.new.items ≡ length rows.old.items }
-{
-    if k < rows.len() {
-        rows[k].source = e;
-    }
-}
-
-/// The receiving ends that bring flows.
-fn set_sources(rows: &mut Vec<ListRow>, brought: &[ListLink])
-    ensures lines { AreSameLines rows.old.items rows.new.items }
-    ensures len { length rows.new.items ≡ length rows.old.items }
-{
+/// The receiving ends that bring flows, by number of the flow.
+///
+/// # Errors
+///
+/// Out of memory.
+pub fn sources_by_row(
+    alloc: Global,
+    count: usize,
+    brought: &[ListLink],
+) -> Result<Vec<usize>, AllocError> {
+    let mut sources = vec![in alloc; 0; count]?;
     for e in 0..brought.len() {
-        set_source(rows, brought[e].row, e);
-    }
-}
-
-fn set_run(rows: &mut Vec<ListRow>, k: usize, run: usize)
-    ensures lines { AreSameLines rows.old.items rows.new.items }
-    ensures len { length rows.new.items ≡ length rows.old.items }
-{
-    if k < rows.len() {
-        rows[k].run = run;
-    }
-}
-
-/// How far flows can be worked out at once, where these are sent.
-fn set_runs(rows: &mut Vec<ListRow>, sent: &[bool])
-    ensures lines { AreSameLines rows.old.items rows.new.items }
-    ensures len { length rows.new.items ≡ length rows.old.items }
-{
-    let count = rows.len();
-    let mut run = count;
-    for n in 0..count {
-        let k = count - 1 - n;
-        let ends = match sent.get(k) {
-            Some(mark) => *mark,
-            None => true,
-        };
-        let own = match rows.get(k) {
-            Some(row) => row.own,
-            None => false,
-        };
-        if ends || !own {
-            run = k + 1;
-        }
-        set_run(rows, k, run);
-        if !own {
-            run = k;
+        let k = brought[e].row;
+        if k < sources.len() {
+            sources[k] = e;
         }
     }
+    Ok(sources)
 }
 
 /// The flows that are sent, by number.
@@ -145,26 +108,34 @@ fn sent_marks(alloc: Global, count: usize, sent: &[ListLink]) -> Result<Vec<bool
     Ok(marks)
 }
 
-/// A site's flows in order, with which of them are sent, and brought by which ends.
+/// By number of a flow, behind which flow those end that can be worked out at once with it: all between are worked out here, and none but
+/// the last is sent.
 ///
 /// # Errors
 ///
 /// Out of memory.
-pub fn linked(
+pub fn runs_by_row(
     alloc: Global,
-    flows: OrderedFlows,
-    brought: &[ListLink],
+    rows: &[OrderedLine],
     sent: &[ListLink],
-) -> Result<OrderedFlows, AllocError>
-    ensures flows { IfOk result (λ new. (plan : PlanView) (s : ℕ) → AreOrderedFlows plan s flows
-        → AreOrderedFlows plan s new) }
-    ensures places { IfOk result (λ new. new.places ≡ flows.places) }
-{
-    let mut flows = flows;
-    set_sources(&mut flows.rows, brought);
-    let marks = sent_marks(alloc, flows.rows.len(), sent)?;
-    set_runs(&mut flows.rows, &marks);
-    Ok(flows)
+) -> Result<Vec<usize>, AllocError> {
+    let marks = sent_marks(alloc, rows.len(), sent)?;
+    let mut runs = vec![in alloc; 0; rows.len()]?;
+    let mut run = rows.len();
+    for n in 0..rows.len() {
+        let k = rows.len() - 1 - n;
+        let own = rows[k].own;
+        if !own || marks.get(k).copied().unwrap_or(true) {
+            run = k + 1;
+        }
+        if k < runs.len() {
+            runs[k] = run;
+        }
+        if !own {
+            run = k;
+        }
+    }
+    Ok(runs)
 }
 
 /// The sending ends in order of their flows.

@@ -8,25 +8,9 @@ use std::alloc::{AllocError, Global};
 
 /// The operand of this number that a form reads at its own instant; none behind the last.
 fn read_at(form: &Form, j: usize) -> Option<usize> {
-    let few = match form {
-        Form::Input(_) | Form::Constant(_) | Form::Pre(_) => [None, None, None],
-        Form::Copied(a) => [Some(*a), None, None],
-        Form::Unary(_, a) => [Some(*a), None, None],
-        Form::Binary(_, a, b) => [Some(*a), Some(*b), None],
-        Form::If(c, a, b) => [Some(*c), Some(*a), Some(*b)],
-        Form::Arrow(a, b) => [Some(*a), Some(*b), None],
-        Form::When(a) => [Some(*a), None, None],
-        Form::Current(a) => [Some(*a), None, None],
-        Form::Merge(c, branches) => {
-            if j == 0 {
-                return Some(*c);
-            }
-            return branches.as_slice().get(j - 1).copied();
-        }
-    };
-    match few.get(j) {
-        Some(read) => *read,
-        None => None,
+    match form {
+        Form::Pre(_) => None,
+        _ => form.operand(j),
     }
 }
 
@@ -68,7 +52,7 @@ impl Making {
             }
             self.chain.push(at)?;
             next = match flat.flows().get(at) {
-                Some(flow) => variable_of(flow),
+                Some(flow) => flow.clock.variable(),
                 None => None,
             };
         }
@@ -87,7 +71,7 @@ impl Making {
         let Some(flow) = flat.flows().get(i) else {
             return Ok(());
         };
-        if let Some(c) = variable_of(flow) {
+        if let Some(c) = flow.clock.variable() {
             self.place_taken(flat, taken, c)?;
         }
         for j in 0..flat.flows().len() {
@@ -97,14 +81,6 @@ impl Making {
             }
         }
         self.place(i)
-    }
-}
-
-/// The variable of a flow's clock.
-fn variable_of(flow: &Flow) -> Option<usize> {
-    match flow.clock {
-        Clock::Base => None,
-        Clock::On(c, _) => Some(c),
     }
 }
 
@@ -163,7 +139,7 @@ impl Rounds {
     /// The first round in which a flow can be that is computed here.
     fn least(&self, flat: &Flat, own: &[bool], flow: &Flow) -> usize {
         let mut least = self.first;
-        if let Some(c) = variable_of(flow) {
+        if let Some(c) = flow.clock.variable() {
             least = least.max(self.behind(flat, own, c, flow.clock));
         }
         for j in 0..flat.flows().len() {

@@ -1,7 +1,6 @@
 //! The main outputs of a site: which of them it reports, and their statuses at the end.
 
-ghost use Rattle.std.specs.Prelude.{◌≡◌, ◌<◌, ◌≤◌, ℕ, [], length, map, true, IfOk, IfSome, Some, slice_get, slice_index, vec_capacity};
-ghost use Rattle.luworld.specs.Needs.{home};
+ghost use Rattle.std.specs.Prelude.{◌≡◌, ◌<◌, ◌≤◌, ℕ, [], length, map, true, IfOk, IfSome, Some, slice_get, vec_capacity};
 ghost use Rattle.luworld.specs.Jobs.{outputs_of};
 ghost use Rattle.lulist.specs.Rows.{reported_number};
 ghost use Rattle.lulist.specs.Stations.{AreOutputRows};
@@ -11,30 +10,12 @@ use luflow::Status;
 use luplace::Plan;
 use std::alloc::{AllocError, Global};
 
-fn first_of(sites: &[u8]) -> u8
-    ensures { result ≡ slice_index sites.now 0 }
-{
-    match sites.get(0) {
-        Some(site) => *site,
-        None => 0,
-    }
-}
-
-/// The home of a main variable.
-fn home(plan: &Plan, variable: usize) -> u8
-    requires { variable < length plan.now.flat.variables }
-    ensures { result ≡ home plan.now variable }
-{
-    plan.recall_invariant();
-    first_of(plan.sites_of(variable))
-}
-
 /// The number of a main output where the site is its home.
 fn reported_number(plan: &Plan, site: u8, numbers: &[u16], variable: usize) -> Option<usize>
     requires { variable < length plan.now.flat.variables }
     ensures { result ≡ reported_number plan.now site numbers.now variable }
 {
-    if home(plan, variable) == site {
+    if plan.home(variable) == site {
         Some(number_of(numbers, variable))
     } else {
         None

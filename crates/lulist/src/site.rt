@@ -25,6 +25,9 @@ pub struct ListSite {
     pub logs: Vec<Vec<Status>>,
     /// The sending ends in order of their flows.
     pub queue: Vec<usize>,
+    /// By number of a flow, the receiving end that brings it, and behind which flow those end that can be worked out at once with it.
+    pub row_sources: Vec<usize>,
+    pub row_runs: Vec<usize>,
     /// The instant, the number of the flow at hand, and how many sending ends of the queue have put their message.
     pub t: u32,
     pub at: usize,
@@ -48,5 +51,14 @@ pub fn datum_of(cell: Cell) -> Option<Datum>
     match status(cell) {
         Status::Present(datum) => Some(datum),
         Status::Absent => None,
+    }
+}
+
+/// The number that stands at k; 0 where there is none.
+#[inline(always)]
+pub fn number_at(numbers: &[usize], k: usize) -> usize {
+    match numbers.get(k) {
+        Some(number) => *number,
+        None => 0,
     }
 }

@@ -7,7 +7,7 @@ ghost use Rattle.lulist.specs.Steps.{HasComeAt, HasComeTo};
 ghost use Rattle.lulist.specs.Lists.{IsListing, IsSameRun};
 
 use crate::ends::{Came, Source, take_one};
-use crate::site::{ListSite, show};
+use crate::site::{ListSite, number_at, show};
 use lueval_lines::{Cell, cell_of, is_on};
 use luworld::Turn;
 
@@ -59,12 +59,12 @@ impl ListSite {
     pub fn take_row(&mut self) -> Turn
         requires going { IsListing self.old }
         requires early { self.old.t < self.old.inputs.job.inputs.instants }
-        requires within { self.old.at < length self.old.flows.rows.items }
+        requires within { self.old.at < length self.old.flows.lines.rows.items }
         ensures going { IfGoes result (IsListing self.new) }
         ensures same { IsSameRun self.old self.new }
     {
-        let row = &self.flows.rows[self.at];
-        let e = row.source;
+        let row = &self.flows.lines.rows[self.at];
+        let e = number_at(&self.row_sources, self.at);
         if row.own || self.sources.len() <= e {
             return Turn::Over;
         }
@@ -94,12 +94,12 @@ impl ListSite {
     pub fn close_row(&mut self) -> Turn
         requires going { IsListing self.old }
         requires late { self.old.t ≡ self.old.inputs.job.inputs.instants }
-        requires within { self.old.at < length self.old.flows.rows.items }
+        requires within { self.old.at < length self.old.flows.lines.rows.items }
         ensures going { IfGoes result (IsListing self.new) }
         ensures same { IsSameRun self.old self.new }
     {
-        let row = &self.flows.rows[self.at];
-        let e = row.source;
+        let row = &self.flows.lines.rows[self.at];
+        let e = number_at(&self.row_sources, self.at);
         if row.own {
             self.at += 1;
             return Turn::Moved;

@@ -8,9 +8,8 @@ ghost use Rattle.luworld.specs.Turns.{IfGoes};
 ghost use Rattle.lulist.specs.Turns.{AreAged, AreNotedTo};
 ghost use Rattle.lulist.specs.Lists.{IsListing, IsSameRun};
 
-use crate::site::ListSite;
-use crate::working::work_all;
-use lueval_lines::{Cell, is_absent, status};
+use crate::site::{ListSite, number_at};
+use lueval_lines::{Cell, Lent, is_absent, status, work_all};
 use luflow::Status;
 use lusite_program::note;
 use luworld::Turn;
@@ -72,7 +71,7 @@ impl ListSite {
     fn end_instant(&mut self) -> Turn
         requires going { IsListing self.old }
         requires early { self.old.t < self.old.inputs.job.inputs.instants }
-        requires all { length self.old.flows.rows.items ≤ self.old.at }
+        requires all { length self.old.flows.lines.rows.items ≤ self.old.at }
         ensures going { IfGoes result (IsListing self.new) }
         ensures same { IsSameRun self.old self.new }
     {
@@ -94,11 +93,11 @@ impl ListSite {
         ensures same { IsSameRun self.old self.new }
     {
         let from = self.at;
-        let count = self.flows.rows.len();
+        let count = self.flows.lines.rows.len();
         let end = if to < count { to } else { count };
         let come = work_all(
-            &self.flows,
-            &self.inputs,
+            &self.flows.lines,
+            Lent::Own(self.inputs.columns()),
             self.t,
             &self.lasts,
             &mut self.shown,
@@ -113,13 +112,12 @@ impl ListSite {
     fn rows_step(&mut self) -> Turn
         requires going { IsListing self.old }
         requires early { self.old.t < self.old.inputs.job.inputs.instants }
-        requires within { self.old.at < length self.old.flows.rows.items }
+        requires within { self.old.at < length self.old.flows.lines.rows.items }
         ensures going { IfGoes result (IsListing self.new) }
         ensures same { IsSameRun self.old self.new }
     {
-        let row = &self.flows.rows[self.at];
-        let run = row.run;
-        if row.own {
+        if self.flows.lines.rows[self.at].own {
+            let run = number_at(&self.row_runs, self.at);
             return self.work_rows(run);
         }
         self.take_row()
@@ -142,7 +140,7 @@ impl ListSite {
         if let Some(e) = self.next_out() {
             return self.put_step(e);
         }
-        if self.at < self.flows.rows.len() {
+        if self.at < self.flows.lines.rows.len() {
             return self.rows_step();
         }
         self.end_instant()
@@ -158,7 +156,7 @@ impl ListSite {
         if let Some(e) = self.next_out() {
             return self.put_close(e);
         }
-        if self.at < self.flows.rows.len() {
+        if self.at < self.flows.lines.rows.len() {
             return self.close_row();
         }
         Turn::Over
@@ -170,7 +168,7 @@ impl ListSite {
         ensures { result ≡ true → self.now.t ≡ self.now.inputs.job.inputs.instants }
     {
         self.t == self.inputs.instants()
-            && self.flows.rows.len() <= self.at
+            && self.flows.lines.rows.len() <= self.at
             && self.queue.len() <= self.out
     }
 

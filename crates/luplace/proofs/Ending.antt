@@ -16,7 +16,7 @@ use Rattle.luworld.specs.declared.link.Link.{Link}
 use Rattle.luworld.specs.Needs.{PlanView, IsPlan}
 use Rattle.luworld.proofs.Fitting.{fits}
 use Rattle.lubase.specs.Graph.{Graph, MarksCycles}
-use Rattle.lublock_plan.specs.Classes.{class_in}
+use Rattle.luplace.specs.Classes.{class_in}
 use Rattle.luplace.specs.Ways.{IsSent, IsInitialised, IsPartedVariable, IsSentNil, NoneParted, GoesByRows, AreAll}
 use Rattle.luplace.specs.Layers.{AreLayers}
 use Rattle.luplace.specs.Nils.{AreLeast}

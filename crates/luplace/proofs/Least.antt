@@ -16,7 +16,7 @@ use Rattle.luflow.specs.Program.{FlatView, flow_at, flows_of, places, clock_read
 use Rattle.luflow.specs.Flats.{IsFlat}
 use Rattle.luflow.specs.Sound.{IsSound, FormFits, ClockFits, BranchesFit}
 use Rattle.luflow.proofs.Solutions.{first_of_all, second_of_all, third_of_all, rest_of_all, all_left, all_at, place_of, rank_of}
-use Rattle.lublock_plan.specs.Classes.{AreClasses, ClassFits, ClockClass, class_in}
+use Rattle.luplace.specs.Classes.{AreClasses, ClassFits, ClockClass, class_in}
 use Rattle.luplace.specs.Nils.{nil_by, nil_at, looked, AreNilsTo, AreLeast}
 
 -- a choice of two is true where one is

@@ -1,5 +1,5 @@
 -- How many workers are likely to be quickest for sites that go by lists.
-use Rattle.std.specs.Prelude.{ℕ, Bool, nat_le, cond, filter, length}
+use Rattle.std.specs.Prelude.{ℕ, Bool, nat_le, cond, count_by}
 use Rattle.std.specs.List.{range_with_len, list_all}
 use Rattle.luflow.specs.Program.{flows_of}
 use Rattle.luworld.specs.Needs.{PlanView, sites_of, stands}
@@ -10,7 +10,7 @@ few_flows = 40
 
 -- how many flows stand at a site
 abbrev pub flows_at : PlanView → ℕ → ℕ
-flows_at plan s = length (filter (λ i. stands plan i s) (range_with_len 0 (flows_of plan.flat)))
+flows_at plan s = count_by (λ i. stands plan i s) (range_with_len 0 (flows_of plan.flat))
 
 abbrev pub is_small : PlanView → ℕ → Bool
 is_small plan s = nat_le (flows_at plan s) few_flows

@@ -8,3 +8,4 @@ pub mod Nils
 pub mod Sent
 pub mod Laws
 pub mod Crews
+pub mod Classes

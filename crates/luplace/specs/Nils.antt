@@ -6,7 +6,7 @@ use Rattle.luflow.specs.declared.form.Form.{Form}
 use Rattle.luflow.specs.declared.form.Form.TheVariants.{Input, Constant, Copied, Unary, Binary, If, Pre}
 use Rattle.luflow.specs.declared.form.Form.TheVariants.{Arrow, When, Current, Merge}
 use Rattle.luflow.specs.Program.{FlatView, flow_at, flows_of}
-use Rattle.lublock_plan.specs.Classes.{AreClasses, class_in}
+use Rattle.luplace.specs.Classes.{AreClasses, class_in}
 
 -- whether a flow of this form may be nil, if of what it reads then these may
 abbrev pub nil_by : (ℕ → Bool) → Form → Bool

@@ -5,7 +5,7 @@ use Rattle.std.specs.List.{filter, range_with_len}
 use Rattle.luflow.specs.Program.{flows_of}
 use Rattle.luworld.specs.declared.link.Link.{Link}
 use Rattle.luworld.specs.Needs.{PlanView}
-use Rattle.lublock_plan.specs.Classes.{class_in}
+use Rattle.luplace.specs.Classes.{class_in}
 use Rattle.luplace.specs.Ways.{IsSent}
 
 -- the numbers below a count of which the marks from a place on say

@@ -6,7 +6,7 @@ use Rattle.luflow.specs.declared.form.Flow.{Flow}
 use Rattle.luflow.specs.Program.{FlatView, flow_at, places, clock_reads}
 use Rattle.luworld.specs.declared.link.Link.{Link}
 use Rattle.luworld.specs.Needs.{PlanView, flow_sites}
-use Rattle.lublock_plan.specs.Classes.{AreClasses}
+use Rattle.luplace.specs.Classes.{AreClasses}
 use Rattle.luplace.specs.declared.way.Way.{Way}
 use Rattle.luplace.specs.declared.way.Way.TheVariants.{Rows, Parted, Nil}
 

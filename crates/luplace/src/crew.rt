@@ -1,29 +1,20 @@
 //! How many workers are likely to be quickest.
 
-ghost use Rattle.std.specs.Prelude.{◌≡◌, ◌<◌, ◌≤◌, filter, length};
+ghost use Rattle.std.specs.Prelude.{◌≡◌, ◌<◌, ◌≤◌};
 ghost use Rattle.std.specs.List.{range_with_len, list_all};
-ghost use Rattle.luflow.specs.Program.{flows_of};
-ghost use Rattle.luworld.specs.Needs.{sites_of, stands};
-ghost use Rattle.luplace.specs.Crews.{are_small, flows_at, is_small, quickest_crew};
+ghost use Rattle.luworld.specs.Needs.{sites_of};
+ghost use Rattle.luplace.specs.Crews.{are_small, is_small, quickest_crew};
 
 use crate::Plan;
 
 /// The most flows of a site that take less time for an instant than a thread takes to wait for another one.
 const FEW_FLOWS: usize = 40;
 
-/// How many flows stand at a site.
-fn flows_at(plan: &Plan, site: u8) -> usize
-    ensures { result ≡ flows_at plan.now site }
-{
-    let count = plan.flat().flows().len();
-    (0..count).filter(|i| plan.stands(*i, site)).count()
-}
-
 /// Whether a site has few flows.
 fn is_small(plan: &Plan, site: u8) -> bool
     ensures { result ≡ is_small plan.now site }
 {
-    flows_at(plan, site) <= FEW_FLOWS
+    plan.flow_count(site) <= FEW_FLOWS
 }
 
 /// Whether each site has few flows.

@@ -33,7 +33,7 @@ fn is_taken(
 }
 
 /// The site that sends a flow: the least of its sites.
-fn home_of(owners: &[usize], placed: &[Row<u8>], place: usize) -> u8
+pub fn home_of(owners: &[usize], placed: &[Row<u8>], place: usize) -> u8
     ensures { result ≡ slice_index (sites_at owners.now placed.now place) 0 }
 {
     first_of(row_at(placed, number_at(owners, place)))

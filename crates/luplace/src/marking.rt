@@ -27,7 +27,7 @@ pub fn is_marked(marks: &[bool], place: usize) -> bool
     }
 }
 
-fn mark(marks: &mut Vec<bool>, place: usize)
+pub fn mark(marks: &mut Vec<bool>, place: usize)
     ensures { marks.new.items ≡ slice_set marks.old.items place true }
 {
     if place < marks.len() {

@@ -1,13 +1,23 @@
 //! Which flows may be nil: the least classes of initialisation.
 
-ghost use Rattle.std.specs.Prelude.{◌≡◌, ◌<◌, length, true, slice_set, IfOk};
+ghost use Rattle.std.specs.Prelude.{◌≡◌, ◌<◌, length, true, IfOk};
 ghost use Rattle.luflow.specs.Program.{flow_at};
-ghost use Rattle.lublock_plan.specs.Classes.{class_in};
+ghost use Rattle.luplace.specs.Classes.{class_in};
 ghost use Rattle.luplace.specs.Nils.{nil_by, nil_at, looked, AreLeast};
 
-use lublock_plan::class_in;
+use crate::marking::mark;
 use luflow::{Flat, Form};
 use std::alloc::{AllocError, Global};
+
+/// Whether a flow may be nil where its clock is first true, by these classes. One that they don't name may.
+pub fn class_in(nils: &[bool], i: usize) -> bool
+    ensures { result ≡ class_in nils.now i }
+{
+    match nils.get(i) {
+        Some(nil) => *nil,
+        None => true,
+    }
+}
 
 /// Whether a flow of this form may be nil where its clock is first true, if of what it reads then these may.
 fn nil_by(nils: &[bool], form: &Form) -> bool
@@ -35,14 +45,6 @@ fn nil_at(nils: &[bool], flat: &Flat, i: usize) -> bool
     match flat.flows().get(i) {
         Some(flow) => nil_by(nils, &flow.form),
         None => false,
-    }
-}
-
-pub fn mark(nils: &mut Vec<bool>, i: usize)
-    ensures { nils.new.items ≡ slice_set nils.old.items i true }
-{
-    if i < nils.len() {
-        nils[i] = true;
     }
 }
 

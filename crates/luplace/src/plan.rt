@@ -3,12 +3,13 @@
 ghost use Rattle.std.specs.Arc.{arc_value};
 ghost use Rattle.std.specs.List.Sorted.{IsStrictlyIncreasing};
 ghost use Rattle.std.specs.Prelude.{◌≡◌, ◌⊎◌, ◌<◌, true, length, All, IfOk, IfErr};
-ghost use Rattle.luworld.specs.Needs.{PlanView, IsPlan, sites_of, stands};
+ghost use Rattle.luworld.specs.Needs.{PlanView, IsPlan, home, sites_of, stands};
+ghost use Rattle.luplace.specs.Crews.{flows_at};
 ghost use Rattle.luplace.specs.Placing.{refusal, are_somewhere, are_together, placed_by, IsPlanOf};
 ghost use Rattle.luflow.specs.Rank.{row};
 
 use crate::assembly::names_of;
-use crate::linking::links_of;
+use crate::linking::{home_of, links_of};
 use crate::lookup::{is_in, row_at};
 use crate::marking::{all_marks, needs_of};
 use crate::placing::placed_by;
@@ -228,6 +229,21 @@ impl Plan {
         ensures { result.now ≡ row self.now.placed variable }
     {
         self.placed.as_slice()[variable].as_slice()
+    }
+
+    /// The site that sends a flow and reports it: the first one of its main variable. Takes no memory.
+    pub fn home(&self, place: usize) -> u8
+        ensures { result ≡ home self.now place }
+    {
+        home_of(self.flat.owners(), self.placed.as_slice(), place)
+    }
+
+    /// How many flows are computed at a site. Takes no memory; the time grows with the number of flows.
+    pub fn flow_count(&self, site: u8) -> usize
+        ensures { result ≡ flows_at self.now site }
+    {
+        let count = self.flat.flows().len();
+        (0..count).filter(|i| self.stands(*i, site)).count()
     }
 
     /// The places of the flows that a site needs, in order: all that its flows name, and the variables of their clocks.

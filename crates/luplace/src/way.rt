@@ -6,9 +6,9 @@ ghost use Rattle.luplace.specs.Ways.{IsSent, IsInitialised, IsPartedVariable, Is
 
 use crate::Plan;
 use crate::layers::layers_of;
-use crate::nils::{least_nils, mark};
+use crate::marking::mark;
+use crate::nils::{class_in, least_nils};
 use lubase::{Row, cycles_of};
-use lublock_plan::class_in;
 use std::alloc::{AllocError, Global};
 
 /// In which way a run goes.

@@ -18,7 +18,8 @@ use Rattle.luworld.specs.Needs.{PlanView, stands, home, is_in}
 use Rattle.luworld.specs.Jobs.{JobView, IsJobView, outline, streams_of, carried, receiver_of}
 use Rattle.luworld.proofs.Fitting.{fits, job_of_run}
 use Rattle.luworld.proofs.Outlines.{is_outline}
-use Rattle.luplace_report.specs.Table.{flow_count, received_count, sent_count, item_count, AreItems, ItemsLaw, AreMessages, MessagesLaw}
+use Rattle.luplace.specs.Crews.{flows_at}
+use Rattle.luplace_report.specs.Table.{received_count, sent_count, item_count, AreItems, ItemsLaw, AreMessages, MessagesLaw}
 use Rattle.luplace_report.proofs.Causes.{sent, IsSent, main, not_true, and_second}
 
 -- SUMS
@@ -236,7 +237,7 @@ module _ (job : JobView) (run : IsJobView job) (s : ℕ) where
       let some = count_some i order (run.plan_is.flat_is.ordered.all_flows i lt) in
       omega (arith, most, some)
 
-  stand_there : sum_by (λ i. one_if (stands plan i s)) order ≡ flow_count plan s
+  stand_there : sum_by (λ i. one_if (stands plan i s)) order ≡ flows_at plan s
   stand_there =
       let n = flows_of plan.flat in
       sum_same (λ i. one_if (stands plan i s)) (met (λ i. i) (λ i. stands plan i s) (range_with_len 0 n)) order

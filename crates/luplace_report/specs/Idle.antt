@@ -3,7 +3,7 @@ use Rattle.std.specs.Prelude.{ℕ, nat_eq, if◌then◌else◌, List, [], ◌++�
 use Rattle.std.specs.List.{range_with_len}
 use Rattle.luworld.specs.Needs.{PlanView, sites_of}
 use Rattle.luplace_report.specs.Names.{site_name}
-use Rattle.luplace_report.specs.Table.{flow_count}
+use Rattle.luplace.specs.Crews.{flows_at}
 
 -- the line of a site, behind the path of the placement
 abbrev pub idle_line : List ℕ → PlanView → ℕ → List ℕ
@@ -13,7 +13,7 @@ idle_line path plan s =
 
 -- a line where no flow stands at the site
 abbrev pub idle_row : List ℕ → PlanView → ℕ → List ℕ
-idle_row path plan s = if nat_eq (flow_count plan s) 0 then idle_line path plan s else []
+idle_row path plan s = if nat_eq (flows_at plan s) 0 then idle_line path plan s else []
 
 -- the lines of all of them, in order of sites
 abbrev pub idle_text : List ℕ → PlanView → List ℕ

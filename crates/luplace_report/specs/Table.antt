@@ -35,14 +35,11 @@ use Rattle.luplace_report.specs.Cause.{cause_of}
 use Rattle.luplace_report.specs.Aligned.{aligned}
 use Rattle.luplace_report.specs.Cycles.{AreFed, cycle_rows}
 use Rattle.luplace_report.specs.Way.{crew_rows, way_cells}
+use Rattle.luplace.specs.Crews.{flows_at}
 use Rattle.luplace.specs.declared.way.Way.{Way}
 use Rattle.luplace.specs.Ways.{IsWayOf}
 
 -- SITES
-
--- how many flows stand at a site
-abbrev pub flow_count : PlanView → ℕ → ℕ
-flow_count plan s = count_by (λ i. stands plan i s) (range_with_len 0 (flows_of plan.flat))
 
 -- how many links a site receives from and sends over
 abbrev pub received_count : PlanView → ℕ → ℕ
@@ -54,11 +51,11 @@ sent_count plan s = count_by (λ (link : Link). link.from == s) plan.links
 -- how many items a site does at an instant at which all clocks are true: it computes its flows, takes and
 -- puts
 abbrev pub item_count : PlanView → ℕ → ℕ
-item_count plan s = flow_count plan s + received_count plan s + sent_count plan s
+item_count plan s = flows_at plan s + received_count plan s + sent_count plan s
 
 abbrev pub site_cells : PlanView → ℕ → List (List ℕ)
 site_cells plan s =
-    site_name plan.names s ∷ decimal (flow_count plan s) ∷ decimal (item_count plan s) ∷ []
+    site_name plan.names s ∷ decimal (flows_at plan s) ∷ decimal (item_count plan s) ∷ []
 
 abbrev pub site_head : List (List ℕ)
 site_head = codes "site" ∷ codes "flows" ∷ codes "items" ∷ []

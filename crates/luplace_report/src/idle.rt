@@ -5,7 +5,6 @@ ghost use Rattle.luplace_report.specs.Idle.{idle_line, idle_row, idle_text};
 ghost use Rattle.luplace_report.specs.Names.{Adds};
 
 use crate::names::site_name;
-use crate::table::flow_count;
 use luplace::Plan;
 use std::alloc::{AllocError, Global};
 
@@ -30,7 +29,7 @@ fn put_line(text: &mut String, path: &str, plan: &Plan, site: u8) -> Result<(), 
 fn put_row(text: &mut String, path: &str, plan: &Plan, site: u8) -> Result<(), AllocError>
     ensures { Adds result text.old text.new (idle_row path.now plan.now site) }
 {
-    if flow_count(plan, site) == 0 {
+    if plan.flow_count(site) == 0 {
         return put_line(text, path, plan, site);
     }
     Ok(())

@@ -5,7 +5,7 @@ ghost use Rattle.std.specs.Prelude.{◌≡◌, ◌++◌, ◌∷◌, [], map, len
 ghost use Rattle.luworld.specs.Needs.{sites_of};
 ghost use Rattle.luplace_report.specs.Aligned.{aligned};
 ghost use Rattle.luplace_report.specs.Names.{Adds, clock_of};
-ghost use Rattle.luplace_report.specs.Table.{flow_count, received_count, sent_count, item_count, site_cells, site_head, site_rows, clock_cell, link_cells, cells_of, link_head, link_rows, reason, cause_text, cause_cells, cause_head, cause_rows, run_rows, rest_text, table_text, IsTableOf};
+ghost use Rattle.luplace_report.specs.Table.{received_count, sent_count, item_count, site_cells, site_head, site_rows, clock_cell, link_cells, cells_of, link_head, link_rows, reason, cause_text, cause_cells, cause_head, cause_rows, run_rows, rest_text, table_text, IsTableOf};
 
 use crate::aligned::put_aligned;
 use crate::cause::{Cause, cause_of};
@@ -17,15 +17,6 @@ use lubase::{Name, Row};
 use luflow::{Clock, Flat};
 use luplace::{Link, Plan, Way, way_of};
 use std::alloc::{AllocError, Global};
-
-/// How many flows stand at a site.
-pub(crate) fn flow_count(plan: &Plan, site: u8) -> usize
-    ensures { result ≡ flow_count plan.now site }
-{
-    (0..plan.flat().flows().len())
-        .filter(|place| plan.stands(*place, site))
-        .count()
-}
 
 /// How many links a site receives from.
 fn received_count(plan: &Plan, site: u8) -> usize
@@ -45,7 +36,7 @@ fn sent_count(plan: &Plan, site: u8) -> usize
 fn item_count(plan: &Plan, site: u8) -> u128
     ensures { result ≡ item_count plan.now site }
 {
-    flow_count(plan, site) as u128
+    plan.flow_count(site) as u128
         + received_count(plan, site) as u128
         + sent_count(plan, site) as u128
 }
@@ -56,7 +47,7 @@ fn site_cells(alloc: Global, plan: &Plan, site: u8) -> Result<Row<Name>, AllocEr
 {
     let mut cells = Vec::with_capacity(alloc, 3)?;
     put_text(&mut cells, alloc, site_name(plan.sites(), site))?;
-    put_number(&mut cells, alloc, flow_count(plan, site) as u128)?;
+    put_number(&mut cells, alloc, plan.flow_count(site) as u128)?;
     put_number(&mut cells, alloc, item_count(plan, site))?;
     Ok(Row::new(cells))
 }

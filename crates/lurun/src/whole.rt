@@ -10,17 +10,16 @@ use lubase::{Name, Row};
 use luflow::Status;
 use luplace::Job;
 use lusite::SiteReport;
-use lusite_program::{output_homes, output_names};
+use lusite_program::output_names;
 use std::alloc::{AllocError, Global};
 use std::snapshot::Snapshot;
 
-/// What of a job a report names: its sites, its instants and its outputs, each with the site that reports it.
+/// What of a job a report names: its sites, its instants and the names of its outputs.
 pub struct Whole {
     pub job: Snapshot<Job>,
     pub sites: u8,
     pub instants: u32,
     pub names: Row<Name>,
-    pub homes: Row<u8>,
 }
 
 impl Drop for Whole {
@@ -30,7 +29,6 @@ impl Drop for Whole {
             sites: _,
             instants: _,
             names: _,
-            homes: _,
         } = self;
     }
 }
@@ -50,9 +48,8 @@ impl Whole {
             sites,
             instants,
             names,
-            homes,
         } = self;
-        Some(SiteReport::whole(job, site, sites, instants, names, homes, rows))
+        Some(SiteReport::whole(job, site, sites, instants, names, rows))
     }
 }
 
@@ -67,6 +64,5 @@ pub fn whole_of(alloc: Global, job: &Job, site: u8) -> Result<Whole, AllocError>
         sites: job.plan().sites().len() as u8,
         instants: job.instants(),
         names: output_names(alloc, job.plan())?,
-        homes: output_homes(alloc, job.plan())?,
     })
 }

@@ -15,7 +15,6 @@ use Rattle.lusite_program.specs.declared.program.Part.{Part}
 use Rattle.lusite.specs.Machine.{is_faulted, IsSet, StandsAt, IsReadyAt, Ready, Over, done_of}
 use Rattle.lusite.specs.Logs.{IsOutput, IsLoggedAt, passed_to, logs_of, log_at, reported_at}
 use Rattle.lusite_program.specs.Logs.{add_if, IsRow, is_wanted, view_items}
-use Rattle.lusite_program.specs.Programs.{is_home, reports_output}
 use Rattle.luworld.specs.WorldViews.{IsFirst}
 use Rattle.lusite.proofs.SiteStates.{Going, going, part_here}
 use Rattle.lusite.proofs.Offers.{Here, hand_next}
@@ -88,23 +87,3 @@ output_is a set st logged ready k xs e =
           log i out ∙ ap (λ (t : Bool). cond t (view_items (slice_get (logs_of a) i)) []) off;
       beyond = λ none. e ∙ ap (λ (q : PlanView). log_at a (slice_get (outputs_of q) k)) set.plan_is ∙ ap (log_at a) none;
     }
-
--- whether a site reports an output
-pub reports_is : (a : SiteState) → IsSet a → (k : ℕ) → reported_at a (slice_get (outputs_of a.program.plan) k) ≡ reports_output a.inputs.job.plan a.inputs.site k
-reports_is a set k =
-    let job = a.inputs.job in
-    ap (λ (q : PlanView). reported_at a (slice_get (outputs_of q) k)) set.plan_is ∙ go (slice_get (outputs_of job.plan) k) refl
-  where
-    with_true : (b c : Bool) → c ≡ true → (b && c) ≡ b
-    with_true true c e = e
-    with_true false c e = refl
-
-    go : (o : Option ℕ) → slice_get (outputs_of a.inputs.job.plan) k ≡ o → reported_at a o ≡ is_home a.inputs.job.plan a.inputs.site o
-    go None e = refl
-    go (Some i) e =
-        let plan = a.inputs.job.plan in
-        let o = output_there plan k i e in
-        let first = set.is_job.is_plan.variables_first in
-        let l = o.0 in
-        ap (λ (x : Part). x.reported) (part_here a i set (omega (arith, l, first)))
-        ∙ with_true (nat_eq (home plan i) a.inputs.site) (is_output_of plan.flat i) o.1

@@ -11,7 +11,6 @@ use Rattle.luworld.specs.Jobs.{JobView, IsJob, outputs_of, script, streams_of}
 use Rattle.luworld.specs.WorldViews.{IsWhole}
 use Rattle.luworld.proofs.Fitting.{job_of_run}
 use Rattle.lusite_program.specs.Logs.{Log, row_items}
-use Rattle.lusite_program.specs.Programs.{is_home, reports_output}
 use Rattle.lusite_program.proofs.SiteFlows.{output_there}
 use Rattle.lusite.specs.Logs.{IsOutput, IsReported}
 use Rattle.lusite.specs.Machine.{IsNext}
@@ -28,7 +27,7 @@ past_end (x ∷ xs) (suc k) e = omega (arith, past_end xs k e)
 abbrev items_of : Log → List Status
 items_of row = row.items
 
-module _ (job : JobView) (s sites instants : ℕ) (names : List (List ℕ)) (homes : List ℕ) (rows : List Log) (w : IsWholeSite job s sites instants names homes (map items_of rows)) where
+module _ (job : JobView) (s sites instants : ℕ) (names : List (List ℕ)) (rows : List Log) (w : IsWholeSite job s sites instants names (map items_of rows)) where
   abbrev end : ℕ
   end = length (script job (streams_of job) s)
 
@@ -87,24 +86,3 @@ module _ (job : JobView) (s sites instants : ℕ) (names : List (List ℕ)) (hom
       go : (o : Option Log) → slice_get rows k ≡ o → IsOutput job s end k (row_items o)
       go None e = no_output k e
       go (Some row) e = row_output k row.items (slice_get-map items_of rows k ∙ ap (option_map items_of) e)
-
-  abbrev home_at : Option ℕ → Option ℕ
-  home_at o = option_map (home job.plan) o
-
-  home_of : (k : ℕ) → slice_get homes k ≡ home_at (slice_get (outputs_of job.plan) k)
-  home_of k = ap (λ (hs : List ℕ). slice_get hs k) w.homes_are ∙ slice_get-map (home job.plan) (outputs_of job.plan) k
-
-  -- whether the site reports an output, by what stands at its number among the homes
-  pub reports_home : (k h : ℕ) → slice_get homes k ≡ Some h → nat_eq h s ≡ reports_output job.plan s k
-  reports_home k h e = go (slice_get (outputs_of job.plan) k) (sym (home_of k) ∙ e)
-    where
-      go : (o : Option ℕ) → home_at o ≡ Some h → nat_eq h s ≡ is_home job.plan s o
-      go None e = absurd cc
-      go (Some i) e = ap (λ (x : ℕ). nat_eq x s) (sym (same_Some (home job.plan i) h e))
-
-  pub reports_nothing : (k : ℕ) → slice_get homes k ≡ None → false ≡ reports_output job.plan s k
-  reports_nothing k e = go (slice_get (outputs_of job.plan) k) (sym (home_of k) ∙ e)
-    where
-      go : (o : Option ℕ) → home_at o ≡ None → false ≡ is_home job.plan s o
-      go None e = refl
-      go (Some i) e = absurd cc

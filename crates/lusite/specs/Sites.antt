@@ -4,7 +4,7 @@ use Rattle.luflow.specs.declared.data.Status.{Status}
 use Rattle.luworld.specs.Needs.{sites_of}
 use Rattle.luworld.specs.Jobs.{JobView, IsJobView, script, streams_of}
 use Rattle.luworld.specs.Sites.{AreWholeOutputs, IsSoundAt}
-use Rattle.lusite_program.specs.Programs.{output_homes, output_names}
+use Rattle.lusite_program.specs.Programs.{output_names}
 use Rattle.lusite.specs.declared.state.SiteState.{SiteState}
 use Rattle.lusite.specs.Machine.{IsReadyAt, ReportsFault, is_faulted, done_of, offered}
 use Rattle.lusite.specs.declared.next.Next.TheVariants.{Local}
@@ -32,13 +32,12 @@ whole_site job s = record { job = job; site = s; done = length (script job (stre
 
 -- what is known of a site that has done its whole script in another way than item by item: all of its
 -- outputs, and that no flow breaks that it computes or takes
-pub record IsWholeSite (job : JobView) (s sites instants : ℕ) (names : List (List ℕ)) (homes : List ℕ)
+pub record IsWholeSite (job : JobView) (s sites instants : ℕ) (names : List (List ℕ))
     (rows : List (List Status)) : Type 0 where
   pub run : IsJobView job
   pub inside : s < sites_of job.plan
   pub sites_are : sites ≡ sites_of job.plan
   pub instants_are : instants ≡ job.inputs.instants
   pub names_are : names ≡ output_names job.plan
-  pub homes_are : homes ≡ output_homes job.plan
   pub sound : IsSoundAt job s
   pub whole : AreWholeOutputs job s rows

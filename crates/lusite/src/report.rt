@@ -4,7 +4,7 @@ ghost use Rattle.std.specs.Prelude.{◌≡◌, ℕ, ◌<◌, true, IfOk, length,
 ghost use Rattle.lusite.specs.Logs.{IsOutput};
 ghost use Rattle.lusite_program.specs.Logs.{row_items};
 ghost use Rattle.lusite.specs.Machine.{IsNext, IsStanding};
-ghost use Rattle.lusite_program.specs.Programs.{output_homes, output_names, reports_output};
+ghost use Rattle.lusite_program.specs.Programs.{output_names};
 ghost use Rattle.luworld.specs.Needs.{sites_of};
 ghost use Rattle.luworld.specs.Jobs.{IsJob, IsJobView, outputs_of};
 ghost use Rattle.luworld.specs.Sites.{AreWholeOutputs, IsSoundAt};
@@ -100,15 +100,14 @@ impl SiteReport {
     ghost use Rattle.lusite.specs.Sites.{whole_site};
 
     /// The report of a site that has done its whole script in another way than item by item: in blocks of instants, or once an
-    /// instant. By the number of each output, `names` has its name, `homes` the site that reports it, and `rows` all its statuses
-    /// where that is this site, else nothing. Takes no memory.
+    /// instant. By the number of each output, `names` has its name, and `rows` all its statuses where this
+    /// site reports it, else nothing. Takes no memory.
     pub fn whole(
         job: Snapshot<Job>,
         site: u8,
         sites: u8,
         instants: u32,
         names: Row<Name>,
-        homes: Row<u8>,
         rows: Vec<Vec<Status>>,
     ) -> SiteReport
         requires run { IsJobView job.value }
@@ -116,7 +115,6 @@ impl SiteReport {
         requires sites { sites ≡ sites_of job.value.plan }
         requires instants { instants ≡ job.value.inputs.instants }
         requires names { names ≡ output_names job.value.plan }
-        requires homes { homes ≡ output_homes job.value.plan }
         requires sound { IsSoundAt job.value site }
         requires whole { AreWholeOutputs job.value site (map (λ row. row.items) rows.items) }
         ensures { result ≡ whole_site job.value site }
@@ -128,7 +126,6 @@ impl SiteReport {
                 sites,
                 instants,
                 names,
-                homes,
                 rows,
             }),
         }
@@ -172,16 +169,6 @@ impl SiteReport {
         match &self.gone {
             Gone::ByItem(site) => site.names(),
             Gone::InWhole(site) => site.names(),
-        }
-    }
-
-    /// Whether the site is the one that reports output k; false where there is no output k. Takes no memory.
-    pub fn reports_output(&self, k: usize) -> bool
-        ensures { result ≡ reports_output self.now.job.plan self.now.site k }
-    {
-        match &self.gone {
-            Gone::ByItem(site) => site.reports_output(k),
-            Gone::InWhole(site) => site.reports_output(k),
         }
     }
 

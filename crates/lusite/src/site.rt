@@ -11,7 +11,7 @@ ghost use Rattle.lusite.specs.Logs.{IsOutput};
 ghost use Rattle.lusite.specs.Machine.{IsAtInstant, IsNext, IsLocalNext, IsPutNext, IsTakeNext, IsFaultAt};
 ghost use Rattle.lusite.specs.Widths.{most_left};
 ghost use Rattle.lusite_program.specs.Logs.{IsNewRow, row_items};
-ghost use Rattle.lusite_program.specs.Programs.{output_names, part_of, places_of, reports_output};
+ghost use Rattle.lusite_program.specs.Programs.{output_names, part_of, places_of};
 
 use crate::kept::kept_of;
 use crate::next::{Fault, Next};
@@ -154,13 +154,6 @@ impl Site {
         ensures { result.now ≡ output_names self.now.job.plan }
     {
         self.state.program.names()
-    }
-
-    /// Whether the site is the one that reports output k; false where there is no output k. Takes no memory.
-    pub fn reports_output(&self, k: usize) -> bool
-        ensures { result ≡ reports_output self.now.job.plan self.now.site k }
-    {
-        self.state.reports_output(k)
     }
 
     /// Exactly the next item of the site's script; at its end whether it ended or faulted. Takes no memory.

@@ -204,14 +204,6 @@ impl SiteState {
         self.step == 0 && self.noted()
     }
 
-    /// Whether the site reports output k.
-    pub fn reports_output(&self, k: usize) -> bool
-        requires { IsSet self.now }
-        ensures { result ≡ reported_at self.now (slice_get (outputs_of self.now.program.plan) k) }
-    {
-        self.program.reported_flow(k).is_some()
-    }
-
     /// The statuses so far of output k; nothing where another site reports it.
     pub fn output(&self, k: usize) -> &[Status]
         requires { IsSet self.now }

@@ -4,7 +4,7 @@ ghost use Rattle.std.specs.Prelude.{◌≡◌, ℕ, length, slice_get};
 ghost use Rattle.lusite.specs.Logs.{IsOutput};
 ghost use Rattle.lusite_program.specs.Logs.{row_items};
 ghost use Rattle.lusite.specs.Machine.{IsNext, IsStanding};
-ghost use Rattle.lusite_program.specs.Programs.{output_names, reports_output};
+ghost use Rattle.lusite_program.specs.Programs.{output_names};
 ghost use Rattle.luworld.specs.Needs.{sites_of};
 ghost use Rattle.luworld.specs.Jobs.{IsJob, outputs_of};
 
@@ -23,8 +23,6 @@ pub struct WholeSite {
     pub(crate) sites: u8,
     pub(crate) instants: u32,
     pub(crate) names: Row<Name>,
-    /// The sites that report the outputs, by the number of each.
-    pub(crate) homes: Row<u8>,
     /// The outputs, by the number of each: nothing where another site reports it.
     pub(crate) rows: Vec<Vec<Status>>,
 }
@@ -38,7 +36,6 @@ impl Drop for WholeSite {
             sites: _,
             instants: _,
             names: _,
-            homes: _,
             rows: _,
         } = self;
     }
@@ -52,7 +49,7 @@ impl Model for WholeSite {
 
     ghost view = { λ a. whole_site a.job.value a.site };
 
-    ghost invariant = { λ a. IsWholeSite a.job.value a.site a.sites a.instants a.names a.homes
+    ghost invariant = { λ a. IsWholeSite a.job.value a.site a.sites a.instants a.names
         (map (λ row. row.items) a.rows.items) };
 }
 
@@ -86,16 +83,6 @@ impl WholeSite {
         self.names.as_slice()
     }
 
-    /// Whether the site is the one that reports output k; false where there is no output k.
-    pub fn reports_output(&self, k: usize) -> bool
-        ensures { result ≡ reports_output self.now.job.plan self.now.site k }
-    {
-        match self.homes.as_slice().get(k) {
-            Some(home) => *home == self.site,
-            None => false,
-        }
-    }
-
     /// How the site stands: it has ended.
     pub fn standing(&self) -> Standing
         ensures { IsStanding self.now.job self.now.site self.now.done result }
@@ -126,7 +113,6 @@ impl WholeSite {
             sites: _,
             instants: _,
             names: _,
-            homes: _,
             rows,
         } = self;
         rows

@@ -116,18 +116,6 @@ pub record AreReported (plan : PlanView) (s : ℕ) (reported : List (Option ℕ)
 abbrev pub output_names : PlanView → List (List ℕ)
 output_names plan = map (variable_name plan.flat) (outputs_of plan)
 
--- the sites that report them
-abbrev pub output_homes : PlanView → List ℕ
-output_homes plan = map (home plan) (outputs_of plan)
-
--- whether a site reports output k: whether it is the home of that variable
-abbrev pub is_home : PlanView → ℕ → Option ℕ → Bool
-is_home plan s None = false
-is_home plan s (Some i) = nat_eq (home plan i) s
-
-abbrev pub reports_output : PlanView → ℕ → ℕ → Bool
-reports_output plan s k = is_home plan s (slice_get (outputs_of plan) k)
-
 -- a site's program has what the plan says of the flows that the site computes or takes, and of the main
 -- outputs
 pub record IsProgram (plan : PlanView) (site ranks_end : ℕ) (ranks places branches links : List ℕ)

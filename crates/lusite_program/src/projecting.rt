@@ -6,7 +6,7 @@ ghost use Rattle.std.specs.Option.{ForSome};
 ghost use Rattle.luworld.specs.Needs.{IsPlan, sites_of, home, stands};
 ghost use Rattle.luworld.specs.Jobs.{knows, link_into, outputs_of, sends};
 ghost use Rattle.lusite_program.specs.Carriers.{HasSources};
-ghost use Rattle.lusite_program.specs.Programs.{clock_at_rank, part_of, ranks_of, places_of, AreNumbers, IsSiteFlow, AreSiteFlows, AreReported, Reports, output_homes, output_names, role_at};
+ghost use Rattle.lusite_program.specs.Programs.{clock_at_rank, part_of, ranks_of, places_of, AreNumbers, IsSiteFlow, AreSiteFlows, AreReported, Reports, output_names, role_at};
 ghost use Rattle.luflow.specs.Program.{flows_of};
 ghost use Rattle.luflow.specs.Variables.{is_output_of, is_output, variable_name};
 ghost use Rattle.lueval_lines.specs.Cells.{clock_of};
@@ -74,38 +74,6 @@ fn names_of(alloc: Global, flat: &Flat, places: &[usize]) -> Result<Vec<Name>, A
     Ok(names)
 }
 
-fn first_of(sites: &[u8]) -> u8
-    ensures { result ≡ slice_index sites.now 0 }
-{
-    match sites.get(0) {
-        Some(site) => *site,
-        None => 0,
-    }
-}
-
-/// The site that sends a flow and reports it.
-fn home(plan: &Plan, place: usize) -> u8
-    ensures { result ≡ home plan.now place }
-{
-    let variable = number_at(plan.flat().owners(), place);
-    if variable < plan.flat().variables().len() {
-        first_of(plan.sites_of(variable))
-    } else {
-        0
-    }
-}
-
-/// The homes of the flows of these places.
-fn homes_of(alloc: Global, plan: &Plan, places: &[usize]) -> Result<Vec<u8>, AllocError>
-    ensures { IfOk result (λ v. v.items ≡ map (home plan.now) places.now) }
-{
-    let mut homes = Vec::with_capacity(alloc, places.len())?;
-    for place in places {
-        homes.push_reserved(home(plan, *place));
-    }
-    Ok(homes)
-}
-
 /// The names of the main outputs, in order of declaration.
 pub fn output_names(alloc: Global, plan: &Plan) -> Result<Row<Name>, AllocError>
     ensures { IfOk result (λ names. names ≡ output_names plan.now) }
@@ -115,15 +83,6 @@ pub fn output_names(alloc: Global, plan: &Plan) -> Result<Row<Name>, AllocError>
     Ok(Row::new(names))
 }
 
-/// The sites that report the main outputs, in order of declaration.
-pub fn output_homes(alloc: Global, plan: &Plan) -> Result<Row<u8>, AllocError>
-    ensures { IfOk result (λ homes. homes ≡ output_homes plan.now) }
-{
-    let outputs = reported_places(alloc, plan.flat().variables())?;
-    let homes = homes_of(alloc, plan, outputs.as_slice())?;
-    Ok(Row::new(homes))
-}
-
 fn part(plan: &Plan, site: u8, place: usize, from: Option<LinkNo>, to: Vec<LinkNo>) -> Part
     requires from { from ≡ link_into plan.now site place }
     requires to { to.items ≡ sends plan.now site place }
@@ -131,7 +90,7 @@ fn part(plan: &Plan, site: u8, place: usize, from: Option<LinkNo>, to: Vec<LinkN
 {
     Part {
         own: plan.stands(place, site),
-        reported: home(plan, place) == site && is_reported(plan.flat().variables(), place),
+        reported: plan.home(place) == site && is_reported(plan.flat().variables(), place),
         from,
         to: Row::new(to),
     }
@@ -371,7 +330,7 @@ fn reported_flow(plan: &Plan, site: u8, numbers: &[u16], place: usize) -> Option
     requires within { place < flows_of plan.now.flat }
     ensures { Reports plan.now site place result }
 {
-    if home(plan, place) == site {
+    if plan.home(place) == site {
         return Some(number_in(numbers, place));
     }
     None

@@ -9,7 +9,7 @@ ghost use Rattle.test_reference.specs.Filled.{IsWhole};
 use crate::grid::Grid;
 use crate::item::Item;
 use crate::looking::clock_at;
-use crate::plans::{carried, home, receiver_of};
+use crate::plans::{carried, receiver_of};
 use luflow::{Clock, Flow};
 use luplace::{Job, Plan};
 use std::alloc::{AllocError, Global};
@@ -81,7 +81,7 @@ fn message_items(alloc: Global, job: &Job, site: u8, flow: usize) -> Result<Vec<
 {
     let plan = job.plan();
     let links = carriers(alloc, plan, flow)?;
-    if home(plan, flow) == site {
+    if plan.home(flow) == site {
         puts(alloc, links.as_slice())
     } else {
         takes(alloc, plan, site, links.as_slice())

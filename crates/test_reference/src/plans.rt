@@ -1,7 +1,6 @@
 //! What a plan says of a link or a flow.
 
-ghost use Rattle.std.specs.Prelude.{◌≡◌, slice_get, slice_index};
-ghost use Rattle.luworld.specs.Needs.{home};
+ghost use Rattle.std.specs.Prelude.{◌≡◌, slice_get};
 ghost use Rattle.luworld.specs.Jobs.{carried, receiver_of};
 
 use luplace::Plan;
@@ -30,35 +29,5 @@ pub fn receiver_of(plan: &Plan, link: usize) -> u8
     match link_at(plan.links(), link) {
         Some(found) => found.to,
         None => 0,
-    }
-}
-
-fn number_at(numbers: &[usize], place: usize) -> usize
-    ensures { result ≡ slice_index numbers.now place }
-{
-    match numbers.get(place) {
-        Some(number) => *number,
-        None => 0,
-    }
-}
-
-fn first_of(sites: &[u8]) -> u8
-    ensures { result ≡ slice_index sites.now 0 }
-{
-    match sites.get(0) {
-        Some(site) => *site,
-        None => 0,
-    }
-}
-
-/// The site that sends a flow.
-pub fn home(plan: &Plan, flow: usize) -> u8
-    ensures { result ≡ home plan.now flow }
-{
-    let variable = number_at(plan.flat().owners(), flow);
-    if variable < plan.flat().variables().len() {
-        first_of(plan.sites_of(variable))
-    } else {
-        0
     }
 }

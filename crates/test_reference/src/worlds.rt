@@ -9,7 +9,7 @@ ghost use Rattle.test_reference.specs.AsItem.{as_item};
 ghost use Rattle.test_reference.specs.Scripts.{AreScripts, script_in};
 
 use crate::item::Item;
-use crate::plans::{carried, home, receiver_of};
+use crate::plans::{carried, receiver_of};
 use crate::scripts::{is_take, script_of};
 use lubase::Row;
 use luplace::Job;
@@ -91,7 +91,7 @@ fn put_count(job: &Job, scripts: &[Row<Item>], world: &[usize], link: usize) -> 
     requires { AreScripts job.now scripts.now }
     ensures { result ≡ put_count (system_of job.now) world.now link }
 {
-    let sender = usize::from(home(job.plan(), carried(job.plan(), link)));
+    let sender = usize::from(job.plan().home(carried(job.plan(), link)));
     puts_in(script_in(scripts, sender), done(world, sender), link)
 }
 

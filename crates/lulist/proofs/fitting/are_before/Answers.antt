@@ -1,7 +1,7 @@
 use Rattle.std.proofs.Common.{arith}
 use Rattle.std.proofs.lemmas.Option.{slice_get_within}
 use Rattle.lulist.specs.Rows.{IsBefore}
-use Rattle.lulist.proofs.Elements.{all_from}
+use Rattle.lueval_lines.proofs.Elements.{all_from}
 use Rattle.lulist.proofs.fitting.are_before.Goals as goal
 
 pub returns : goal.returns

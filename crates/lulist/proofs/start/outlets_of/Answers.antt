@@ -5,7 +5,7 @@ use Rattle.luflow.proofs.Solutions.{all_at}
 use Rattle.lulink.specs.Views.{IsUnusedSender, SenderView}
 use Rattle.lulist.specs.declared.ends.Outlet.{Outlet}
 use Rattle.lulist.specs.Starts.{IsFirstOutlet, IsListLink}
-use Rattle.lulist.proofs.Elements.{got}
+use Rattle.lueval_lines.proofs.Elements.{got}
 use Rattle.lulist.proofs.start.outlets_of.Goals as goal
 
 pub loop-tx-init : goal.loop-tx-init

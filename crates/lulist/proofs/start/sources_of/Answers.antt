@@ -5,7 +5,7 @@ use Rattle.luflow.proofs.Solutions.{all_at}
 use Rattle.lulink.specs.Views.{IsUnusedReceiver, ReceiverView}
 use Rattle.lulist.specs.declared.ends.Source.{Source}
 use Rattle.lulist.specs.Starts.{IsFirstSource, IsListLink}
-use Rattle.lulist.proofs.Elements.{got}
+use Rattle.lueval_lines.proofs.Elements.{got}
 use Rattle.lulist.proofs.start.sources_of.Goals as goal
 
 pub loop-rx-init : goal.loop-rx-init

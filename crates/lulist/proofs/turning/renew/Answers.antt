@@ -2,7 +2,7 @@ use Rattle.std.proofs.Common.{◌≡◌, sym, ap, ◌∙◌}
 use Rattle.std.specs.Prelude.{slice_set}
 use Rattle.lueval_lines.specs.declared.cell.Cell.{Cell}
 use Rattle.lueval_lines.specs.Cells.{newest}
-use Rattle.lulist.proofs.Elements.{set_back}
+use Rattle.lueval_lines.proofs.Elements.{set_back}
 use Rattle.lulist.proofs.Instants.{newest_absent}
 use Rattle.lulist.proofs.turning.renew.Goals as goal
 

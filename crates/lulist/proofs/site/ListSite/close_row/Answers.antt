@@ -3,14 +3,14 @@ use Rattle.std.specs.Prelude.{slice_get, true}
 use Rattle.luflow.proofs.Solutions.{some_at}
 use Rattle.lusite_program.proofs.Written.{slice_get-set_same}
 use Rattle.lulist.specs.declared.ends.Source.{Source}
-use Rattle.lulist.proofs.Elements.{len_set, set_twice}
+use Rattle.lueval_lines.proofs.Elements.{len_set, set_twice}
 use Rattle.lulist.proofs.Linked.{going_closed, going_none}
 use Rattle.lulist.proofs.site.ListSite.close_row.Goals as goal
 
 pub close_at-requires : goal.close_at-requires
 close_at-requires c =
     let x = c.args.self.now in
-    let e = c.index-row.result.now.source in
+    let e = c.number_at-e.result in
     let l : e < length x.sources.items = search rules in
     let s = some_at x.sources.items e l in
     let t = c.take_at.ensures s.0 s.1 in
@@ -19,7 +19,7 @@ close_at-requires c =
 pub returns-in-Close-clause-going : goal.returns-in-Close-clause-going
 returns-in-Close-clause-going c =
     let x = c.args.self.now in
-    let e = c.index-row.result.now.source in
+    let e = c.number_at-e.result in
     let l : e < length x.sources.items = search rules in
     let s = some_at x.sources.items e l in
     let t = c.take_at.ensures s.0 s.1 in
@@ -32,7 +32,7 @@ returns-in-Close-clause-going c =
 pub returns-in-Nothing-clause-going : goal.returns-in-Nothing-clause-going
 returns-in-Nothing-clause-going c =
     let x = c.args.self.now in
-    let e = c.index-row.result.now.source in
+    let e = c.number_at-e.result in
     let l : e < length x.sources.items = search rules in
     let s = some_at x.sources.items e l in
     let t = c.in-Nothing.ensures s.0 s.1 in

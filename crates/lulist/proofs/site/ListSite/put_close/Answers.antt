@@ -5,7 +5,7 @@ use Rattle.luflow.specs.declared.message.Body.TheVariants.{Close}
 use Rattle.lulink.specs.Views.{IsNextToPut}
 use Rattle.lusite_program.proofs.Written.{slice_get-set_same}
 use Rattle.lulist.specs.declared.ends.Outlet.{Outlet}
-use Rattle.lulist.proofs.Elements.{got, len_set, set_twice}
+use Rattle.lueval_lines.proofs.Elements.{got, len_set, set_twice}
 use Rattle.lulist.proofs.Linked.{close_next, going_shut, going_unsent}
 use Rattle.lulist.proofs.site.ListSite.put_close.Goals as goal
 

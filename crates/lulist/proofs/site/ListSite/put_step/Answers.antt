@@ -5,7 +5,7 @@ use Rattle.luflow.specs.declared.message.Body.TheVariants.{Value}
 use Rattle.lulink.specs.Views.{IsNextToPut}
 use Rattle.lueval_lines.specs.Cells.{held}
 use Rattle.lulist.specs.declared.ends.Outlet.{Outlet}
-use Rattle.lulist.proofs.Elements.{got}
+use Rattle.lueval_lines.proofs.Elements.{got}
 use Rattle.lulist.proofs.Linked.{going_passed, going_sent, going_unsent, value_next}
 use Rattle.lulist.proofs.site.ListSite.put_step.Goals as goal
 

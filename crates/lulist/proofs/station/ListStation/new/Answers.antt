@@ -1,5 +1,5 @@
 use Rattle.lulink.specs.Views.{IsUnusedReceiver, IsUnusedSender}
-use Rattle.lulist.proofs.Elements.{all_from}
+use Rattle.lueval_lines.proofs.Elements.{all_from}
 use Rattle.lulist.proofs.station.ListStation.new.Goals as goal
 
 pub start-requires-clause-senders : goal.start-requires-clause-senders

@@ -7,4 +7,4 @@ use Rattle.lusite.proofs.whole.WholeSite.instants.Goals as goal
 pub returns-clause-job : goal.returns-clause-job
 returns-clause-job c =
     let a = c.self.inside in
-    subst (λ (v : SiteView). IsJob v.job) c.self.view_is (whole_job a.job.value a.site a.sites a.instants a.names a.homes a.rows.items c.self.invariant)
+    subst (λ (v : SiteView). IsJob v.job) c.self.view_is (whole_job a.job.value a.site a.sites a.instants a.names a.rows.items c.self.invariant)

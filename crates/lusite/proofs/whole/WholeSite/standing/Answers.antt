@@ -8,4 +8,4 @@ use Rattle.lusite.proofs.whole.WholeSite.standing.Goals as goal
 pub returns : goal.returns
 returns c =
     let a = c.self.inside in
-    subst (λ (v : SiteView). IsNext v.job v.site v.done Ended) c.self.view_is (whole_ended a.job.value a.site a.sites a.instants a.names a.homes a.rows.items c.self.invariant)
+    subst (λ (v : SiteView). IsNext v.job v.site v.done Ended) c.self.view_is (whole_ended a.job.value a.site a.sites a.instants a.names a.rows.items c.self.invariant)
