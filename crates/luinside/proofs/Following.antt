@@ -58,8 +58,8 @@ use Rattle.luinside.proofs.Descent.{Counted, CallsHave, AllOf, operands_have, of
 use Rattle.luinside.proofs.Finding.{NoCall}
 use Rattle.luinside.proofs.Equations.{equation_there, inner_size}
 use Rattle.luinside.proofs.Failing.{fails_reads}
-use Rattle.luinside.proofs.Instances as instances
-use Rattle.luinside.proofs.Instances.{Fails, FaultPart}
+use Rattle.luinside.proofs.InstanceFlows as instances
+use Rattle.luinside.proofs.InstanceFlows.{Fails, FaultPart}
 use Rattle.luinside.proofs.FlowOwners as standing
 
 -- CALLS

@@ -20,7 +20,7 @@ pub mod Equations
 pub mod CallSites
 pub mod Failing
 pub mod FlowOwners
-pub mod Instances
+pub mod InstanceFlows
 pub mod Passed
 pub mod Sought
 pub mod Following
