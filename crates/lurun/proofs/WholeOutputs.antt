@@ -9,7 +9,7 @@ use Rattle.luflow.specs.Tables.{OutputColumn}
 use Rattle.luflow.specs.Variables.{variable_name}
 use Rattle.luworld.specs.WorldViews.{IsWhole}
 use Rattle.luworld.specs.Jobs.{JobView, IsJob, NoFault, outputs_of}
-use Rattle.lumeaning.proofs.Sources.{same_marks}
+use Rattle.lusource.proofs.RunSourced.{same_marks}
 use Rattle.lusite_program.specs.Programs.{output_names}
 use Rattle.lurun.specs.Reports.{AreOutputsOf}
 use Rattle.luflow.proofs.Solutions.{some_at}

@@ -10,7 +10,7 @@ use Rattle.luflow.specs.Messages.{marks}
 use Rattle.luflow.specs.Tables.{OutputColumn}
 use Rattle.luflow.specs.Variables.{outputs_of}
 use Rattle.lusource.specs.Source.{SourceStreams}
-use Rattle.lumeaning.specs.Meaning.{IsMeant}
+use Rattle.lusource.specs.RunSources.{IsMeant}
 use Rattle.luworld.specs.Needs.{sites_of}
 use Rattle.luworld.specs.WorldViews.{IsWhole}
 use Rattle.luworld.specs.Jobs.{JobView, NoFault, outputs_of as output_numbers}

@@ -7,7 +7,7 @@ use Rattle.luworld.specs.Jobs.{JobView, IsJobView, NoFault}
 use Rattle.luworld.proofs.Fitting.{job_of_run}
 use Rattle.luweave.proofs.Endings.{no_fault}
 use Rattle.lusource.specs.Source.{SourceStreams, IsSourceSolution}
-use Rattle.lumeaning.specs.RunReports.{HasEndedSites}
+use Rattle.lusource.specs.RunReports.{HasEndedSites}
 use Rattle.lusdist_shell.specs.Files.{FileFacts}
 use Rattle.lusdist_shell.specs.CommandLine.{lusdist}
 use Rattle.lusdist_shell.specs.Request.{text_in, IsFoundIn, IsReplayIn, IsRunIn}

@@ -9,10 +9,10 @@ use Rattle.luworld.specs.Needs.{IsPlan}
 use Rattle.luworld.specs.Jobs.{JobView}
 use Rattle.lusource.specs.Source.{SourceStreams, IsSourceSolution}
 use Rattle.lucore.specs.Result.{IsFlatOf}
-use Rattle.lumeaning.specs.Meaning.{IsMeant}
-use Rattle.lumeaning.specs.RunReports.{IsTrueOf}
+use Rattle.lusource.specs.RunSources.{IsMeant}
+use Rattle.lusource.specs.RunReports.{IsTrueOf}
 use Rattle.lusdist_shell.specs.declared.request.ReplayRequest.{ReplayRequest}
-use Rattle.lumeaning.specs.RunReports.{OutputLine}
+use Rattle.lusource.specs.RunReports.{OutputLine}
 use Rattle.luchart.specs.Signals.{Signal}
 use Rattle.luweave_text.specs.Waves.{AreOutputSignals}
 use Rattle.lusdist_call.specs.Answers.{IsPrinted, IsReplayed}

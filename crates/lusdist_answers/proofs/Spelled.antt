@@ -21,7 +21,7 @@ use Rattle.lucore_laws.proofs.Names.{distinct, get-names, mapped_some, place_at,
 use Rattle.lucore_laws.proofs.NodeStatic.{first_is}
 use Rattle.lucore_laws.proofs.Roles.{main_declared}
 use Rattle.lucore.specs.Result.{IsFlatOf}
-use Rattle.lumeaning.specs.RunReports.{names_of, names_reported}
+use Rattle.lusource.specs.RunReports.{names_of, names_reported}
 
 -- the names of a type, of the source and of its flat program
 same_names : (types : List TypeTree) (kind : Kind) → flat_types.names_of (map enum_of types) kind ≡ names_of types (Some kind)

@@ -29,8 +29,8 @@ use Rattle.luworld.specs.WorldViews.{WorldView, IsPrefixOf, AllEnded, taken_of, 
 use Rattle.lusource.specs.Source.{SourceStreams, IsSourceSolution}
 use Rattle.lusource.specs.Faults.{IsSourceFault}
 use Rattle.lucore.specs.Result.{IsFlatOf, HasSourceFaults}
-use Rattle.lumeaning.specs.Meaning.{IsMeant, source_list, source_stream}
-use Rattle.lumeaning.specs.RunReports.{LinkLine, ended, SiteLine, OutputLine, RunReport, HasEndedSites, main_marks, IsLinkTrue, IsLinkWhole, IsOutputTrue, IsOutputWhole, IsEndingTrue, IsSiteTrue, names_reported, IsTrueOf}
+use Rattle.lusource.specs.RunSources.{IsMeant, source_list, source_stream}
+use Rattle.lusource.specs.RunReports.{LinkLine, ended, SiteLine, OutputLine, RunReport, HasEndedSites, main_marks, IsLinkTrue, IsLinkWhole, IsOutputTrue, IsOutputWhole, IsEndingTrue, IsSiteTrue, names_reported, IsTrueOf}
 use Rattle.lusite.specs.declared.next.Fault.{Fault}
 use Rattle.lusite.specs.Machine.{IsStanding, IsFaultAt}
 use Rattle.lusite.specs.declared.report.Standing.{Standing}

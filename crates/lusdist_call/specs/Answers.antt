@@ -13,7 +13,7 @@ use Rattle.luworld.specs.Needs.{PlanView}
 use Rattle.luworld.specs.Jobs.{JobView}
 use Rattle.luworld.specs.WorldViews.{WorldView}
 use Rattle.luweave.specs.Headline.{IsFaithful}
-use Rattle.lumeaning.specs.RunReports.{RunReport, IsTrueOf}
+use Rattle.lusource.specs.RunReports.{RunReport, IsTrueOf}
 use Rattle.luweave_text.specs.WorldText.{IsWorldText}
 use Rattle.luweave_text.specs.Waves.{AreOutputSignals}
 use Rattle.luchart.specs.Signals.{Signal}

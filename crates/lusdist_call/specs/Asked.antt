@@ -7,7 +7,7 @@ use Rattle.luworld.specs.Systems.{reached, NoTurnMoves}
 use Rattle.luworld.specs.Jobs.{JobView, IsJobView, system_of}
 use Rattle.lusource.specs.Source.{SourceStreams, IsSourceSolution}
 use Rattle.lusource.specs.Agreement.{HasOneMeaning}
-use Rattle.lumeaning.specs.Meaning.{IsMeant}
+use Rattle.lusource.specs.RunSources.{IsMeant}
 use Rattle.lusyn.specs.Texts.{SpellsText}
 use Rattle.lucore.specs.Result.{IsFlatOf}
 use Rattle.luplace_file.specs.Content.{PlaceView}

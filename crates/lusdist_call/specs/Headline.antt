@@ -11,8 +11,8 @@ use Rattle.lusource.specs.Faults.{IsSourceFault}
 use Rattle.lusource.specs.Agreement.{HasOneMeaning}
 use Rattle.lucore_laws.specs.CausalityLaws.{HasCycle}
 use Rattle.lucore.specs.Result.{IsFlatOf}
-use Rattle.lumeaning.specs.RunReports.{RunReport, HasEndedSites, IsLinkTrue, IsLinkWhole, IsOutputTrue}
-use Rattle.lumeaning.specs.RunReports.{IsOutputWhole}
+use Rattle.lusource.specs.RunReports.{RunReport, HasEndedSites, IsLinkTrue, IsLinkWhole, IsOutputTrue}
+use Rattle.lusource.specs.RunReports.{IsOutputWhole}
 use Rattle.lusyn.specs.Texts.{SpellsText}
 use Rattle.lutab.specs.Table.{IsTextOf}
 use Rattle.lutab.specs.Outputs.{output_text}

@@ -13,8 +13,8 @@ use Rattle.luworld.specs.Needs.{sites_of}
 use Rattle.luworld.specs.Systems.{done}
 use Rattle.luworld.specs.Jobs.{outputs_of}
 use Rattle.luworld.specs.WorldViews.{WorldView, IsCollected, taken_of, queued_of}
-use Rattle.lumeaning.specs.RunReports.{LinkLine, Ending, ended, open_yet, faulted, SiteLine, OutputLine}
-use Rattle.lumeaning.specs.RunReports.{RunReport}
+use Rattle.lusource.specs.RunReports.{LinkLine, Ending, ended, open_yet, faulted, SiteLine, OutputLine}
+use Rattle.lusource.specs.RunReports.{RunReport}
 use Rattle.lusite.specs.Machine.{IsStanding}
 use Rattle.lusite.specs.declared.report.Standing.{Standing}
 use Rattle.lusite.specs.declared.report.Standing.TheVariants.{Ended, Faulted, Cut}

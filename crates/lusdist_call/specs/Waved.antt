@@ -7,7 +7,7 @@ use Rattle.luflow.specs.Tables.{OutputColumn}
 use Rattle.lusource.specs.Source.{SourceStreams, IsSourceSolution}
 use Rattle.luworld.specs.Needs.{PlanView}
 use Rattle.luworld.specs.WorldViews.{WorldView, IsPrefixOf}
-use Rattle.lumeaning.specs.RunReports.{main_marks}
+use Rattle.lusource.specs.RunReports.{main_marks}
 use Rattle.lutab.specs.Outputs.{output_kinds}
 use Rattle.luchart.specs.Signals.{Signal, signals_of}
 use Rattle.luweave_text.specs.Waves.{site_dump, AreOutputSignals}

@@ -2,3 +2,4 @@ mod Instances
 pub mod Meanings
 mod FaultVectors
 mod FaultPaths
+pub mod RunSourced

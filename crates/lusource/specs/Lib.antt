@@ -8,3 +8,6 @@ pub mod StreamVectors
 pub mod Faults
 pub mod FaultVectors
 pub mod FaultPaths
+pub mod RunSources
+pub mod RunLaws
+pub mod RunReports

@@ -4,6 +4,7 @@ ghost use Rattle.lusource.specs.Agreement.{OneMainMeaningLaw, OneMeaningLaw};
 ghost use Rattle.lusource.specs.FaultPaths.{FaultPathsLaw};
 ghost use Rattle.lusource.specs.FaultVectors.{FaultVectorsLaw};
 ghost use Rattle.lusource.specs.Instances.{CalledLaw, InstanceLaw};
+ghost use Rattle.lusource.specs.RunLaws.{SourceLaw};
 ghost use Rattle.lusource.specs.Vectors.{VectorsLaw};
 ghost use Rattle.lusource.specs.StreamVectors.{StreamVectors};
 
@@ -48,4 +49,10 @@ pub fn fault_vectors_law()
 /// In a solution, a fault is one of an operator of an instance, at a path of calls that the text has.
 pub fn fault_paths_law()
     ensures { FaultPathsLaw }
+{}
+
+/// In each solution of a run's source the main variables have the streams, and the links the lists, that the flat program's
+/// only solution gives them.
+pub fn source_law()
+    ensures { SourceLaw }
 {}

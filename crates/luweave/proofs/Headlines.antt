@@ -6,8 +6,8 @@ use Rattle.luflow.specs.declared.message.Msg.{Msg}
 use Rattle.luworld.specs.Systems.{put_count, taken_count}
 use Rattle.luworld.specs.Jobs.{JobView, streams_of, system_of, link_list}
 use Rattle.lusource.specs.Source.{SourceStreams}
-use Rattle.lumeaning.specs.Meaning.{IsMeant, NoneBreaks, source_list}
-use Rattle.lumeaning.proofs.Sources.{same_list, same_marks, none_breaks}
+use Rattle.lusource.specs.RunSources.{IsMeant, NoneBreaks, source_list}
+use Rattle.lusource.proofs.RunSourced.{same_list, same_marks, none_breaks}
 use Rattle.lusite.specs.Sites.{SiteView}
 use Rattle.lusite_program.proofs.SiteFlows.{output_there}
 use Rattle.luweave.specs.declared.link_queue.LinkQueue.{LinkQueue}

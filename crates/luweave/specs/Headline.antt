@@ -4,7 +4,7 @@ use Rattle.luflow.specs.declared.data.Status.{Status}
 use Rattle.lusource.specs.Source.{SourceStreams}
 use Rattle.luworld.specs.Systems.{put_count, taken_count}
 use Rattle.luworld.specs.Jobs.{JobView, system_of, outputs_of}
-use Rattle.lumeaning.specs.Meaning.{IsMeant, source_list, AreStatuses, BeginStatuses, NoneBreaks}
+use Rattle.lusource.specs.RunSources.{IsMeant, source_list, AreStatuses, BeginStatuses, NoneBreaks}
 use Rattle.luflow.specs.declared.message.Msg.{Msg}
 use Rattle.luworld.specs.WorldViews.{WorldView, AllEnded, IsPrefixOf, IsCollected, taken_of}
 

@@ -12,7 +12,7 @@ ghost use Rattle.luworld.specs.Jobs.{system_of, IsJob};
 ghost use Rattle.luweave.specs.Worlds.{more, IsPutInto, IsTakeFrom, IsNewWorld, IsNewLinkQueue, IsUnstuck, IsOnlyEnd, IsDone, IsReportedAtSome};
 ghost use Rattle.luworld.specs.WorldViews.{IsCollected, IsPrefixOf, AllEnded, list_of_link, taken_of, queued_of};
 ghost use Rattle.lusource.specs.Source.{SourceStreams};
-ghost use Rattle.lumeaning.specs.Meaning.{IsMeant, NoneBreaks, source_list};
+ghost use Rattle.lusource.specs.RunSources.{IsMeant, NoneBreaks, source_list};
 ghost use Rattle.luweave.specs.Schedules.{IsWithinReach, AreWholeScripts, IsMoveCount};
 ghost use Rattle.luweave.specs.Headline.{InEachSource, WaitsNext, IsCollectedOf, IsFaithful};
 ghost use Rattle.lusite.specs.Logs.{IsOutput};

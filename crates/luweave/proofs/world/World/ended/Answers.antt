@@ -1,7 +1,7 @@
 use Rattle.std.proofs.Common.{◌≡◌, true}
 use Rattle.luworld.specs.Jobs.{NoFault}
 use Rattle.lusource.specs.Source.{SourceStreams}
-use Rattle.lumeaning.specs.Meaning.{IsMeant, NoneBreaks}
+use Rattle.lusource.specs.RunSources.{IsMeant, NoneBreaks}
 use Rattle.luweave.specs.Worlds.{dones_of}
 use Rattle.luworld.specs.WorldViews.{AllEnded}
 use Rattle.luweave.proofs.Worlds.{along}

@@ -2,7 +2,7 @@ use Rattle.std.proofs.Common.{◌≡◌, [], None}
 use Rattle.std.specs.Prelude.{slice_get}
 use Rattle.luworld.specs.Jobs.{outputs_of}
 use Rattle.lusource.specs.Source.{SourceStreams}
-use Rattle.lumeaning.specs.Meaning.{IsMeant}
+use Rattle.lusource.specs.RunSources.{IsMeant}
 use Rattle.luweave.specs.Worlds.{dones_of}
 use Rattle.luworld.specs.WorldViews.{IsCollected}
 use Rattle.luweave.specs.Headline.{IsCollectedOf}

@@ -3,7 +3,7 @@ use Rattle.luworld.specs.Jobs.{link_list, system_of, streams_of}
 use Rattle.luworld.specs.Systems.{taken_count}
 use Rattle.luflow.specs.declared.message.Msg.{Msg}
 use Rattle.lusource.specs.Source.{SourceStreams}
-use Rattle.lumeaning.specs.Meaning.{IsMeant, source_list}
+use Rattle.lusource.specs.RunSources.{IsMeant, source_list}
 use Rattle.luweave.specs.Worlds.{dones_of}
 use Rattle.luworld.specs.WorldViews.{WorldView, IsPrefixOf, AllEnded}
 use Rattle.luweave.proofs.Worlds.{along, take_begins, link_queue_order, taken_view}

@@ -2,7 +2,7 @@
 use Rattle.std.specs.Prelude.{◌≡◌, ℕ, ◌<◌, length}
 use Rattle.luworld.specs.Jobs.{JobView, IsJob, streams_of, link_list}
 use Rattle.lusource.specs.Source.{SourceStreams}
-use Rattle.lumeaning.specs.Meaning.{IsMeant, source_stream, source_list}
+use Rattle.lusource.specs.RunSources.{IsMeant, source_stream, source_list}
 
 -- the main variables' streams and the links' lists are those of the flat program's only solution
 pub record SaysTheSame (job : JobView) (σ : SourceStreams) : Type 0 where

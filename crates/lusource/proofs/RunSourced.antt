@@ -11,8 +11,8 @@ use Rattle.luworld.specs.Jobs.{JobView, IsJob, NoFault, streams_of, messages_of,
 use Rattle.luworld.proofs.Outlines.{flow_of_carried}
 use Rattle.lusource.specs.Source.{SourceStreams}
 use Rattle.lusource.proofs.Meanings.{as_flat}
-use Rattle.lumeaning.specs.Meaning.{IsMeant, NoneBreaks, source_stream, source_list}
-use Rattle.lumeaning.specs.Laws.{SaysTheSame}
+use Rattle.lusource.specs.RunSources.{IsMeant, NoneBreaks, source_stream, source_list}
+use Rattle.lusource.specs.RunLaws.{SaysTheSame}
 
 -- streams that are the same have the same marks
 pub marks_same : (s s' : Stream) (n : ℕ) → ((t : ℕ) → s t ≡ s' t) → marks s n ≡ marks s' n

@@ -1,5 +1,0 @@
-use Rattle.lumeaning.proofs.Sources.{says_the_same}
-use Rattle.lumeaning.proofs.laws.source_law.Goals as goal
-
-pub returns : goal.returns
-returns c = λ job σ ok meant. says_the_same job σ ok meant
