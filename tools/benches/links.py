@@ -1,12 +1,11 @@
-#!/usr/bin/env python3
 """Measures how long a message takes from one thread to another, over a link and in plain Rust.
 
-    tools/speed_links [--program PATH] [ROUNDS [RUNS]]
+    tools/bench links [--program PATH] [ROUNDS [RUNS]]
 
 --program is the built program of the cases (crates/test_transcript/out/test_transcript). It drives that and tools/plain_links, which it has rustc compile: by turns, ROUNDS times (5), each time RUNS
 times (20, at least 2) the 100,001 messages of a link, at capacities of 1, 16 and 1,024. It prints the least time a message of each, in nanoseconds. Each message is looked at as it comes.
 
-    tools/speed_links [--program PATH] --soak MILLIONS
+    tools/bench links [--program PATH] --soak MILLIONS
 
 sends so many million messages over the ring in all, in four equal parts at capacities of 1, 2, 16 and 1,024, and reports the minutes. Status 1 where a message isn't the one that was put.
 """
@@ -15,7 +14,7 @@ import argparse, os, subprocess, sys, tempfile, time
 sys.dont_write_bytecode = True
 import built
 
-TOP = os.path.dirname(os.path.dirname(os.path.realpath(__file__)))
+TOP = os.path.dirname(os.path.dirname(os.path.dirname(os.path.realpath(__file__))))
 MESSAGES = 100001
 
 def link(rows, form, capacity, runs):
@@ -36,7 +35,7 @@ def plain(program, capacity, runs):
     return int(parts[2]) / int(parts[0])
 
 def compiled(folder):
-    subprocess.run(['rustc', '-O', TOP + '/tools/plain_links/main.rs', '-o', folder + '/plain_links'], check=True)
+    subprocess.run(['rustc', '-O', TOP + '/tools/benches/plain_links/main.rs', '-o', folder + '/plain_links'], check=True)
     return folder + '/plain_links'
 
 def measure(rows, rounds, runs):

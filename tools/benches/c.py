@@ -1,7 +1,6 @@
-#!/usr/bin/env python3
 """Measures the evaluator beside the same programs written out as C.
 
-    tools/speed_c [--program PATH] [--instants N] [--runs N] [--keep FOLDER] [NAME ..]
+    tools/bench c [--program PATH] [--instants N] [--runs N] [--keep FOLDER] [NAME ..]
 
 no_cycle    delay lines and arithmetic on the base clock; no cycle
 half_slow   a chain of stages with half of their flows on slow clocks, which are true about every other time
@@ -22,7 +21,7 @@ import argparse, heapq, os, subprocess, sys, tempfile, time
 from importlib.machinery import SourceFileLoader
 
 sys.dont_write_bytecode = True
-TOP = os.path.dirname(os.path.dirname(os.path.realpath(__file__)))
+TOP = os.path.dirname(os.path.dirname(os.path.dirname(os.path.realpath(__file__))))
 sys.path.insert(0, TOP + '/tools')
 model = SourceFileLoader('model', TOP + '/tools/model').load_module()
 import built

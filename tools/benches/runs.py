@@ -1,11 +1,10 @@
-#!/usr/bin/env python3
 """Measures `lusdist run` beside `lusdist eval`, and beside the same pipeline as C with a thread for each part.
 
-    tools/speed_runs [--feedback] [--rounds N] [--instants N] [--items N] [--program PATH] [--beside PATH] [--keep FOLDER]
+    tools/bench runs [--feedback] [--rounds N] [--instants N] [--items N] [--program PATH] [--beside PATH] [--keep FOLDER]
 
 The program is a pipeline of 16 stages, some 1,000 flows of which half stand on slow clocks, with three links between neighbours, cut into 1, 2, 4, 8 and 16 equal parts, at
 capacities of 1, 16 and 1,024. Each way goes once a round, by turns, over N instants (100,000); a time is that of the whole command less what it takes over a table of no instant, the least
-of all rounds (5). Each table has to be that of `eval`. The C has a function for each part, with its memories local, checked as tools/speed_c checks (`loop`), a ring without a lock for each link, of
+of all rounds (5). Each table has to be that of `eval`. The C has a function for each part, with its memories local, checked as tools/bench c checks (`loop`), a ring without a lock for each link, of
 1,024 words, and `gcc -O2`; its loop alone is timed, and its one part as one thread. What runs item by item (--items) is measured over fewer instants (5,000), and `eval` over as many.
 `2 of 4 processors` is by `taskset`. What is printed is how many times as fast as `eval` each way is.
 With --feedback it is two programs of the same stages whose sites feed each other, at two sites, without C: a ring, in which an instant goes round all stages, and a pair of halves, each of
@@ -16,8 +15,8 @@ import argparse, os, subprocess, sys, tempfile, time
 from importlib.machinery import SourceFileLoader
 
 sys.dont_write_bytecode = True
-TOP = os.path.dirname(os.path.dirname(os.path.realpath(__file__)))
-c_tool = SourceFileLoader('speed_c', TOP + '/tools/speed_c').load_module()
+TOP = os.path.dirname(os.path.dirname(os.path.dirname(os.path.realpath(__file__))))
+from benches import c as c_tool
 import built
 
 STAGES, PARTS, CAPACITIES = 16, (1, 2, 4, 8, 16), (1, 16, 1024)

@@ -1,23 +1,23 @@
-#!/usr/bin/env python3
 """Measures the built program by whole commands, over programs and tables that it makes.
 
-    tools/speed eval [FLOWS] [INSTANTS]           evaluation: ns a flow and instant
-    tools/speed sites [FLOWS] [INSTANTS]          a replay at 1, 4 and 16 sites: ns an item, a turn that moves, beside the evaluation of the same program
-    tools/speed tables [LINES] [COLUMNS]          reading a table, and reading and writing one
-    tools/speed plan [VARIABLES] [SITES]          reading, checking and planning a program, beside checking alone
-    tools/speed counters [INSTANTS]               two counters that feed each other: time and memory of a whole replay, and of a run by a thread each and by one worker
-    tools/speed worst [NAME ..]                   the texts of tools/worst: time and memory of a check, or of a plan
+    tools/bench eval [FLOWS] [INSTANTS]           evaluation: ns a flow and instant
+    tools/bench sites [FLOWS] [INSTANTS]          a replay at 1, 4 and 16 sites: ns an item, a turn that moves, beside the evaluation of the same program
+    tools/bench tables [LINES] [COLUMNS]          reading a table, and reading and writing one
+    tools/bench plan [VARIABLES] [SITES]          reading, checking and planning a program, beside checking alone
+    tools/bench counters [INSTANTS]               two counters that feed each other: time and memory of a whole replay, and of a run by a thread each and by one worker
+    tools/bench worst [NAME ..]                   the texts of tools/worst: time and memory of a check, or of a plan
 
 --program PATH is the built program (crates/lusdist/out/lusdist), --runs N of how many runs the best is taken (5). Each time is the difference of two calls
 that differ in instants alone, so that starting, reading the program and flattening it aren't counted; where a call is reported as a whole, that is said.
-`valgrind --tool=callgrind` over the same calls counts instructions, which stay the same whatever the machine is doing: --instructions.
+`valgrind --tool=callgrind` over the same calls counts instructions, which stay the same whatever the machine is doing: --instructions. With --all `eval` prints all main
+variables, and so goes instant by instant.
 """
 import argparse, os, re, resource, subprocess, sys, tempfile, time
 
 sys.dont_write_bytecode = True
 import built
 
-TOP = os.path.dirname(os.path.dirname(os.path.realpath(__file__)))
+TOP = os.path.dirname(os.path.dirname(os.path.dirname(os.path.realpath(__file__))))
 
 # A node of all forms, about half of whose flows stand on slow clocks. All numbers stay below 100,000, whatever the input.
 STAGE = '''node stage(x: int; c: bool) returns (y: int; d: bool);
@@ -69,8 +69,8 @@ def chain_place(flows, sites):
     return text + 'y = "s%d"\nd = "s%d"\n' % (at(count - 1), at(count - 1))
 
 class Bench:
-    def __init__(self, program, runs, folder, instructions):
-        self.program, self.runs, self.folder, self.instructions = program, runs, folder, instructions
+    def __init__(self, program, runs, folder, instructions, flags):
+        self.program, self.runs, self.folder, self.instructions, self.flags = program, runs, folder, instructions, flags
 
     def put(self, name, text):
         with open(os.path.join(self.folder, name), 'w') as file:
@@ -122,10 +122,11 @@ def evaluation(bench, flows, instants):
     bench.put('few.csv', chain_table(instants // 10))
     bench.put('many.csv', chain_table(instants))
     count, more = bench.flows(), instants - instants // 10
-    each = bench.between(['eval', 'p.lus', 'few.csv'], ['eval', 'p.lus', 'many.csv']) * 1e9 / more / count
+    call = lambda name: ['eval', 'p.lus', name + '.csv', *bench.flags]
+    each = bench.between(call('few'), call('many')) * 1e9 / more / count
     told = '%d flows, %d instants: %.1f ns a flow and instant' % (count, instants, each)
     if bench.instructions:
-        told += ', %.0f instructions' % ((bench.count('eval', 'p.lus', 'many.csv') - bench.count('eval', 'p.lus', 'few.csv')) / more / count)
+        told += ', %.0f instructions' % ((bench.count(*call('many')) - bench.count(*call('few'))) / more / count)
     print(told, flush=True)
 
 def sites(bench, flows, instants):
@@ -208,10 +209,11 @@ def main():
     words.add_argument('--program', default=built.LUSDIST)
     words.add_argument('--runs', type=int, default=5)
     words.add_argument('--instructions', action='store_true')
+    words.add_argument('--all', action='store_true')
     given = words.parse_args()
     program = built.program(given.program)
     with tempfile.TemporaryDirectory() as folder:
-        bench = Bench(program, given.runs, folder, given.instructions)
+        bench = Bench(program, given.runs, folder, given.instructions, ['--all'] if given.all else [])
         if given.task == 'worst':
             return worst(bench, given.sizes)
         task, usual = TASKS[given.task]
