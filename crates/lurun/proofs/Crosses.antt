@@ -157,7 +157,7 @@ inside_gone =
             search sendable,
             (
               search (sendable, crosses, row.the_send, name.the_send) depth 12,
-              (search (sendable, crosses, row.the_send) depth 12, (search (sendable, crosses, status.the_send) depth 12, tt)),
+              (search (sendable, crosses, status.the_send) depth 12, tt),
             ),
           ),
         ),
@@ -199,7 +199,7 @@ whole_field_send =
           search sendable,
           (
             search (sendable, crosses, row.the_send, name.the_send) depth 12,
-            (search (sendable, crosses, row.the_send) depth 12, tt),
+            tt,
           ),
         ),
       ),
