@@ -2,7 +2,8 @@
 
 use lusdist_shell::EvalRequest;
 
-/// Site `field` counts the pulses of a flow meter and takes a sample at each tenth; site `office` adds the samples up.
+/// Site `field` counts the pulses of a flow meter and takes a sample at each tenth; site `office` adds the
+/// samples up.
 pub(crate) const DESIGN: &str =
     "node main(pulse: bool; tenth: bool) returns (count: int; total: int when tenth);
 var sample: int when tenth;

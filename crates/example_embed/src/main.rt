@@ -1,6 +1,6 @@
-//! How a program uses the distributor's crates: it has a design, its placement, a table and a schedule as texts of its own, evaluates the
-//! design, runs it at two sites, each on a thread of its own, and replays it there. Of what the run gives and of what the replay prints it has
-//! theorems, with nothing left to assume.
+//! How a program uses the distributor's crates: it has a design, its placement, a table and a schedule as
+//! texts of its own, evaluates the design, runs it at two sites, each on a thread of its own, and replays it
+//! there. Of what the run gives and of what the replay prints it has theorems, with nothing left to assume.
 #![tactic(auto)]
 
 mod design;

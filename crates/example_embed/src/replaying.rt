@@ -88,8 +88,8 @@ fn printed<R: Threads + Wait + Clock + Sync>(
     }
 }
 
-/// What the sites report, once none of them can go on: it is true of the design at its table, in each of its solutions. None where memory ran
-/// out.
+/// What the sites report, once none of them can go on: it is true of the design at its table, in each of its
+/// solutions. None where memory ran out.
 pub(crate) fn replay_of_design<R: Threads + Wait + Clock + Sync>(
     rt: &R,
     alloc: Global,

@@ -1,7 +1,8 @@
 //! A search in depth that says which vertices reach themselves.
 //!
-//! The vertices that were entered and not left stand on a stack. It is cut into groups, at the places where they begin; the vertices of a group reach
-//! each other. An edge back into a group joins all groups from there on. A group is left when all edges of its vertices have been looked at.
+//! The vertices that were entered and not left stand on a stack. It is cut into groups, at the places where
+//! they begin; the vertices of a group reach each other. An edge back into a group joins all groups from
+//! there on. A group is left when all edges of its vertices have been looked at.
 
 ghost use Rattle.std.specs.Prelude.{◌≡◌, ◌<◌, ◌≤◌, ◌++◌, ◌∷◌, ◌⊎◌, ◌+◌, ◌↔◌, [], ℕ, IsTrue, Bool, true, false, length, slice_index, slice_set, take, unwrap_or, All, Contains, IfOk, OnOk, IfNone, IfSome};
 ghost use Rattle.std.specs.Bool.{OnTrue, OnFalse};
@@ -20,14 +21,15 @@ pub struct Frame {
     pub next: usize,
 }
 
-// What a look along a list found: the least place of the stack that an edge leads back to, and the first edge to a vertex that isn't entered.
+/// What a look along a list found: the least place of the stack that an edge leads back to, and the first
+/// edge to a vertex that isn't entered.
 #[derive(Clone, Copy)]
 struct Scan {
     low: usize,
     edge: Option<usize>,
 }
 
-// Looks along a list, up to the first vertex that isn't entered.
+/// Looks along a list, up to the first vertex that isn't entered.
 fn look_along(
     row: &[usize],
     entered: &[bool],
@@ -61,7 +63,7 @@ fn look_along(
     Scan { low, edge: None }
 }
 
-// Drops all bounds above a place.
+/// Drops all bounds above a place.
 fn cut(bounds: &mut Vec<usize>, low: usize) -> Result<(), AllocError>
     requires { IsRising bounds.old.items }
     ensures rising { OnOk result (IsRising bounds.new.items) }
@@ -80,7 +82,7 @@ fn cut(bounds: &mut Vec<usize>, low: usize) -> Result<(), AllocError>
     Ok(())
 }
 
-// Drops the last bound, if it is a place that no bound is above.
+/// Drops the last bound, if it is a place that no bound is above.
 fn drop_bound(bounds: &mut Vec<usize>, place: usize) -> Result<bool, AllocError>
     requires rising { IsRising bounds.old.items }
     requires below { (b : ℕ) → Contains bounds.old.items b → b ≤ place }
@@ -98,14 +100,14 @@ fn drop_bound(bounds: &mut Vec<usize>, place: usize) -> Result<bool, AllocError>
     Ok(false)
 }
 
-// Whether a list has a vertex.
+/// Whether a list has a vertex.
 fn has_vertex(row: &[usize], vertex: usize) -> bool
     ensures { IsTrue result ↔ Contains row.now vertex }
 {
     row.contains(&vertex)
 }
 
-// Marks the vertices of the last group as left, and those that reach themselves.
+/// Marks the vertices of the last group as left, and those that reach themselves.
 fn mark_group(
     graph: &[Vec<usize>],
     stack: &[usize],
@@ -131,8 +133,8 @@ fn mark_group(
     }
 }
 
-/// A search: which vertices it has entered, which of them it has left, which of those reach themselves, the stack with the place of each vertex on
-/// it, the places where groups begin, and the frames.
+/// A search: which vertices it has entered, which of them it has left, which of those reach themselves, the
+/// stack with the place of each vertex on it, the places where groups begin, and the frames.
 #[derive(Drop)]
 pub struct Groups {
     pub entered: Vec<bool>,
@@ -168,7 +170,7 @@ impl Groups {
         })
     }
 
-    // Enters a vertex that all on the stack reach; it begins a group.
+    /// Enters a vertex that all on the stack reach; it begins a group.
     fn enter(&mut self, vertex: usize) -> Result<(), AllocError>
         requires room { vertex < length self.old.entered.items }
         requires places { vertex < length self.old.places.items }
@@ -193,7 +195,8 @@ impl Groups {
         Ok(())
     }
 
-    // The last frame goes on: a vertex that it points to is entered, or it is done, and its group is left if it began there.
+    /// The last frame goes on: a vertex that it points to is entered, or it is done, and its group is left if
+    /// it began there.
     fn advance(&mut self, graph: &[Vec<usize>], frame: Frame) -> Result<(), AllocError>
         requires { IsFramed graph.now self.old frame }
         ensures sound { OnOk result (IsGroups graph.now self.new) }

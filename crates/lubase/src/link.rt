@@ -14,7 +14,7 @@ pub struct Link {
     pub to: usize,
 }
 
-// Appends a number to one of the lists.
+/// Appends a number to one of the lists.
 fn push_at(rows: &mut Vec<Vec<usize>>, place: usize, value: usize) -> Result<(), AllocError>
     requires { place < length rows.old.items }
     ensures long { OnOk result (length rows.new.items ≡ length rows.old.items) }
@@ -27,7 +27,7 @@ fn push_at(rows: &mut Vec<Vec<usize>>, place: usize, value: usize) -> Result<(),
     Ok(())
 }
 
-// As many empty lists as `size`.
+/// As many empty lists as `size`.
 fn empty_rows(alloc: Global, size: usize) -> Result<Vec<Vec<usize>>, AllocError>
     ensures long { IfOk result (λ rows. length rows.items ≡ size) }
     ensures empty { IfOk result (λ rows. (v : ℕ) → row_of rows.items v ≡ []) }

@@ -6,8 +6,8 @@ ghost use Rattle.std.specs.Str.{bytes_eq};
 use std::alloc::{AllocError, Global};
 use std::marker::Model;
 
-/// A text that never changes, such as the name of a variable or a site. A contract sees its bytes, so two names of one
-/// spelling are equal.
+/// A text that never changes, such as the name of a variable or a site. A contract sees its bytes, so two
+/// names of one spelling are equal.
 #[derive(Debug)]
 pub struct Name {
     text: String,

@@ -4,7 +4,8 @@ ghost use Rattle.std.specs.Prelude.{◌≡◌, ◌≤◌, ◌<◌, min, IfSome, 
 
 use std::marker::Model;
 
-/// A number as a program's text may have it, from 0 to 9223372036854775807. A contract sees the number itself.
+/// A number as a program's text may have it, from 0 to 9223372036854775807. A contract sees the number
+/// itself.
 #[derive(Clone, Copy)]
 pub struct Number {
     value: u64,

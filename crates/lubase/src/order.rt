@@ -18,7 +18,7 @@ pub enum Order {
     Cyclic(usize),
 }
 
-// The first place with a mark.
+/// The first place with a mark.
 fn first_marked(marks: &[bool]) -> Option<usize>
     ensures marked { IfSome result (λ v. v < length marks.now) }
     ensures has { IfSome result (Has marks.now) }
@@ -33,7 +33,7 @@ fn first_marked(marks: &[bool]) -> Option<usize>
     None
 }
 
-// The least vertex that reaches itself, where one is known.
+/// The least vertex that reaches itself, where one is known.
 fn least_cycle(alloc: Global, graph: &[Vec<usize>], known: usize) -> Result<usize, AllocError>
     requires { IsCycle graph.now known }
     ensures cycle { IfOk result (IsCycle graph.now) }
@@ -48,9 +48,10 @@ fn least_cycle(alloc: Global, graph: &[Vec<usize>], known: usize) -> Result<usiz
 
 /// An order of a graph's vertices, or the least vertex that reaches itself.
 ///
-/// The vertices are the places of `graph`, from 0. The list at a place has the vertices that it points to, in any order and any number of times.
-/// A number there that is no place of `graph` is passed over. There is an order exactly where no vertex reaches itself.
-/// The time grows with the number of vertices and edges, and memory is asked for before each of the two searches, never within them.
+/// The vertices are the places of `graph`, from 0. The list at a place has the vertices that it points to, in
+/// any order and any number of times. A number there that is no place of `graph` is passed over. There is an
+/// order exactly where no vertex reaches itself. The time grows with the number of vertices and edges, and
+/// memory is asked for before each of the two searches, never within them.
 ///
 /// # Errors
 ///
@@ -72,8 +73,9 @@ pub fn order_of(alloc: Global, graph: &[Vec<usize>]) -> Result<Order, AllocError
 
 /// Which vertices reach themselves, by one edge or more.
 ///
-/// The vertices and edges are those of [`order_of`]. The result has a mark for each vertex, true exactly where it reaches itself.
-/// The time grows with the number of vertices and edges, and all memory is asked for at the start.
+/// The vertices and edges are those of [`order_of`]. The result has a mark for each vertex, true exactly
+/// where it reaches itself. The time grows with the number of vertices and edges, and all memory is asked for
+/// at the start.
 ///
 /// # Errors
 ///

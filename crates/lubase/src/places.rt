@@ -32,7 +32,7 @@ impl<'a> Model for Places<'a> {
     ghost invariant = { λ p. IsPlaces (looked_up p.index) (map (λ n. n.now) p.names.items) };
 }
 
-// The place of the first of each name.
+/// The place of the first of each name.
 fn index_of<'a>(alloc: Global, names: &[&'a str]) -> Result<BTreeMap<&'a str, usize>, AllocError>
     ensures { IfOk result (λ m. IsPlaces (looked_up m) (map (λ n. n.now) names.now)) }
 {

@@ -9,7 +9,7 @@ ghost use Rattle.lubase.specs.ReachStates.{HasRows, IsEntered, IsSearching};
 use crate::link::{Link, rows_of};
 use std::alloc::{AllocError, Global};
 
-// The list of a number.
+/// The list of a number.
 fn row_at(rows: &[Vec<usize>], v: usize) -> &[usize]
     requires { v < length rows.now }
     ensures { result.now ≡ row_of rows.now v }
@@ -17,7 +17,7 @@ fn row_at(rows: &[Vec<usize>], v: usize) -> &[usize]
     rows[v].as_slice()
 }
 
-// No marks.
+/// No marks.
 fn no_marks(alloc: Global, size: usize) -> Result<Vec<bool>, AllocError>
     ensures long { IfOk result (λ marks. length marks.items ≡ size) }
     ensures none { IfOk result (λ marks. (v : ℕ) → Lacks marks.items v) }
@@ -26,7 +26,7 @@ fn no_marks(alloc: Global, size: usize) -> Result<Vec<bool>, AllocError>
     Ok(marks)
 }
 
-// Marks the numbers of a row, and puts those that had no mark on the stack.
+/// Marks the numbers of a row, and puts those that had no mark on the stack.
 fn enter(row: &[usize], marks: &mut Vec<bool>, stack: &mut Vec<usize>) -> Result<(), AllocError>
     requires { All (λ v. v < length marks.old.items) row.now }
     ensures { OnOk result (IsEntered row.now marks.old.items marks.new.items stack.old.items
@@ -42,7 +42,8 @@ fn enter(row: &[usize], marks: &mut Vec<bool>, stack: &mut Vec<usize>) -> Result
     Ok(())
 }
 
-/// For each number below `size` whether links lead to it from a start. The time grows with `size` and the number of links.
+/// For each number below `size` whether links lead to it from a start. The time grows with `size` and the
+/// number of links.
 ///
 /// # Errors
 ///

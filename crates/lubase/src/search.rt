@@ -14,7 +14,8 @@ pub struct Visit {
     pub next: usize,
 }
 
-/// A search: which vertices it has entered, which of them it has placed, those that it is on the way through, and the order so far.
+/// A search: which vertices it has entered, which of them it has placed, those that it is on the way through,
+/// and the order so far.
 #[derive(Drop)]
 pub struct Search {
     pub entered: Vec<bool>,
@@ -31,7 +32,7 @@ pub fn row_at(graph: &[Vec<usize>], vertex: usize) -> &[usize]
     graph[vertex].as_slice()
 }
 
-// The first place of a row, at `from` or later, with a vertex that isn't placed.
+/// The first place of a row, at `from` or later, with a vertex that isn't placed.
 fn first_waiting(row: &[usize], placed: &[bool], from: usize) -> Option<usize>
     ensures none { IfNone result ((k : ℕ) → from ≤ k → k < length row.now
         → IsPassed placed.now row.now k) }
@@ -68,7 +69,8 @@ impl Search {
         })
     }
 
-    // The last visit of the way goes on: its vertex is placed, or one that it points to is entered, or that one reaches itself.
+    /// The last visit of the way goes on: its vertex is placed, or one that it points to is entered, or that
+    /// one reaches itself.
     fn advance(&mut self, graph: &[Vec<usize>], visit: Visit) -> Result<Option<usize>, AllocError>
         requires { IsVisiting graph.now self.old visit }
         ensures sound { IfOk result (λ o. IfNone o (IsSearching graph.now self.new)) }

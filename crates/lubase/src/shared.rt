@@ -7,8 +7,8 @@ use std::alloc::{AllocError, Global};
 use std::marker::Model;
 use std::rc::Rc;
 
-/// A text that never changes and may have several owners, such as the name of the variable that many clocks name. It lies in memory
-/// once, however many they are. A contract sees its bytes, as those of a [`Name`].
+/// A text that never changes and may have several owners, such as the name of the variable that many clocks
+/// name. It lies in memory once, however many they are. A contract sees its bytes, as those of a [`Name`].
 pub struct SharedName {
     name: Rc<Name>,
 }
@@ -45,8 +45,8 @@ impl SharedName {
         SharedName::new(alloc, Name::from_text(alloc, text)?)
     }
 
-    /// The name for one owner more, where it lies in memory already. It takes no memory; it is refused where there are as many owners as can be
-    /// counted.
+    /// The name for one owner more, where it lies in memory already. It takes no memory; it is refused where
+    /// there are as many owners as can be counted.
     pub fn shared(&self) -> Result<SharedName, AllocError>
         ensures { IfOk result (λ shared. shared ≡ self.now) }
     {

@@ -132,8 +132,8 @@ impl Board {
         Ok(Board { rows, spans })
     }
 
-    /// Counts the ticks of flow i in a block of `len` instants, where they aren't counted yet; whether they can't be. Where flow `like` has the same
-    /// clock and was counted, it has as many.
+    /// Counts the ticks of flow i in a block of `len` instants, where they aren't counted yet; whether they
+    /// can't be. Where flow `like` has the same clock and was counted, it has as many.
     pub fn count(&mut self, flat: &Flat, len: usize, i: usize, like: usize) -> bool
         ensures stands { (inputs : InputsView) (t : ℕ)
             → StandsStill flat.now inputs t len self.old self.new }
@@ -182,8 +182,8 @@ impl Board {
         }
     }
 
-    /// Finds the words of flow i up to its tick `to`, where the block begins at instant `t`; whether some tick has none, or what is read
-    /// isn't there.
+    /// Finds the words of flow i up to its tick `to`, where the block begins at instant `t`; whether some
+    /// tick has none, or what is read isn't there.
     pub fn solve(
         &mut self,
         alloc: Global,
@@ -255,8 +255,8 @@ fn give_into(
 }
 
 impl Board {
-    /// Gives the words of flow i, an input of this column, up to its tick `to`, where the block begins at instant `t`; whether some
-    /// tick has none.
+    /// Gives the words of flow i, an input of this column, up to its tick `to`, where the block begins at
+    /// instant `t`; whether some tick has none.
     pub fn give(
         &mut self,
         alloc: Global,
@@ -338,8 +338,8 @@ fn is_idle(span: Span) -> bool
 }
 
 impl Board {
-    /// Supposes the words of a flow, of which it has none yet; whether they can't be put. Nothing is known of them before it is seen that they
-    /// are right.
+    /// Supposes the words of a flow, of which it has none yet; whether they can't be put. Nothing is known of
+    /// them before it is seen that they are right.
     pub fn suppose(&mut self, i: usize, words: &[i64]) -> bool
         ensures stands { (flat : FlatView) (inputs : InputsView) (t len : ℕ)
             → StandsStill flat inputs t len self.old self.new }
@@ -412,7 +412,8 @@ fn is_constant(flat: &Flat, r: usize) -> bool
     }
 }
 
-/// How far a flow is when the next block begins: one that `stays` has its words of the last block, unless they are messages.
+/// How far a flow is when the next block begins: one that `stays` has its words of the last block, unless
+/// they are messages.
 fn renewed(span: Span, stays: bool) -> Span
     ensures { result ≡ record {
       ticks = 0;

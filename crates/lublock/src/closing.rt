@@ -32,7 +32,8 @@ fn is_shifted(x: &[i64], a: &[i64], ticks: usize) -> bool
     others == 0
 }
 
-/// Whether a flow of this form is a `pre` that has at each of its ticks the word that its operand has a tick before.
+/// Whether a flow of this form is a `pre` that has at each of its ticks the word that its operand has a tick
+/// before.
 pub(crate) fn form_closes(form: &Form, rows: &[Vec<i64>], i: usize, ticks: usize) -> bool
     ensures { result ≡ true → IsClosed rows.now i ticks form.now }
 {

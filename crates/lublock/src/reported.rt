@@ -1,4 +1,5 @@
-//! The columns of a run in blocks, for a part of a program as for a whole one: what a block has goes to their ends, and those of outputs are kept.
+//! The columns of a run in blocks, for a part of a program as for a whole one: what a block has goes to their
+//! ends, and those of outputs are kept.
 
 ghost use Rattle.std.specs.Prelude.{◌≡◌, ℕ, length, false, IfOk, Some, slice_get};
 ghost use Rattle.lublock.specs.Shown.{AreKept, StaysNear, StaysNearIn};
@@ -8,7 +9,8 @@ use crate::show::{first_of, show};
 use luflow::{Flat, Status};
 use std::alloc::{AllocError, Global};
 
-/// Puts the statuses of these main variables at a block's instants at their columns' ends, as [`show_part`] does.
+/// Puts the statuses of these main variables at a block's instants at their columns' ends, as [`show_part`]
+/// does.
 pub(crate) fn show_flows(
     alloc: Global,
     flat: &Flat,
@@ -32,8 +34,9 @@ pub(crate) fn show_flows(
     Ok(false)
 }
 
-/// Puts the statuses of these main variables of a part at a block's instants, `len` from `t` on, at their columns' ends, in this order; whether
-/// some isn't there. The variable of a clock comes before those that have the clock.
+/// Puts the statuses of these main variables of a part at a block's instants, `len` from `t` on, at their
+/// columns' ends, in this order; whether some isn't there. The variable of a clock comes before those that
+/// have the clock.
 ///
 /// # Errors
 ///

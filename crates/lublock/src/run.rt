@@ -20,7 +20,8 @@ use std::alloc::{AllocError, Global};
 /// The instants of a block.
 const INSTANTS: usize = 256;
 
-/// Works out a block, puts out what it has, and makes the board ready for the next; whether something isn't there.
+/// Works out a block, puts out what it has, and makes the board ready for the next; whether something isn't
+/// there.
 fn go(
     alloc: Global,
     flat: &Flat,
@@ -132,9 +133,9 @@ fn reported(
     }
 }
 
-/// Evaluates the whole program at a table, as [`whole_outputs`] does, in blocks of instants where it can: its outputs by name, in order of
-/// declaration, each with its stream in the only solution; or the first fault. The memory is a status for each output and instant, and a
-/// fixed amount for each flow.
+/// Evaluates the whole program at a table, as [`whole_outputs`] does, in blocks of instants where it can: its
+/// outputs by name, in order of declaration, each with its stream in the only solution; or the first fault.
+/// The memory is a status for each output and instant, and a fixed amount for each flow.
 ///
 /// # Errors
 ///

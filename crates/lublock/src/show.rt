@@ -155,7 +155,8 @@ fn column_of(columns: &[Vec<Status>], c: usize) -> Option<&Vec<Status>>
     columns.get(c)
 }
 
-/// The instant of the first status in a main variable's column, in a block from `t` on: what is no output has the block's alone.
+/// The instant of the first status in a main variable's column, in a block from `t` on: what is no output has
+/// the block's alone.
 pub fn first_of(flat: &Flat, v: usize, t: usize) -> usize
     ensures first { result ≡ first_of flat.now v t }
     ensures before { result ≤ t }
@@ -166,8 +167,8 @@ pub fn first_of(flat: &Flat, v: usize, t: usize) -> usize
     }
 }
 
-/// Puts the statuses of a flow on this clock at the `len` instants from `t` on, behind those from instant `first` on; whether some isn't
-/// there.
+/// Puts the statuses of a flow on this clock at the `len` instants from `t` on, behind those from instant
+/// `first` on; whether some isn't there.
 pub fn push_block(
     flat: &Flat,
     columns: &[Vec<Status>],

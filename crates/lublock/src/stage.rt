@@ -50,8 +50,8 @@ fn is_found(flat: &Flat, rows: &[Vec<i64>], spans: &[Span], i: usize, ticks: usi
 }
 
 impl Board {
-    /// Looks whether flow i has all its words and, where they were supposed, whether they are what its form asks for; true where something is
-    /// missing or wrong.
+    /// Looks whether flow i has all its words and, where they were supposed, whether they are what its form
+    /// asks for; true where something is missing or wrong.
     pub fn settle(&mut self, flat: &Flat, i: usize) -> bool
         ensures stands { (inputs : InputsView) (t len : ℕ)
             → StandsStill flat.now inputs t len self.old self.new }

@@ -39,7 +39,8 @@ fn once(b: bool) -> usize
     b as usize
 }
 
-/// Puts the word that x has at a place, where there is a hit, and else the one that stands there. Both are read, so that no jump depends on a clock.
+/// Puts the word that x has at a place, where there is a hit, and else the one that stands there. Both are
+/// read, so that no jump depends on a clock.
 #[inline(always)]
 fn carry_if(row: &mut [i64], tick: usize, hit: bool, x: &[i64], place: usize)
     requires row { tick + 1 < length row.old }
@@ -92,7 +93,8 @@ pub fn gather(
     hits
 }
 
-/// Writes at each tick the word that `a` had at the last tick at which `c` had a value; whether `a` has too few.
+/// Writes at each tick the word that `a` had at the last tick at which `c` had a value; whether `a` has too
+/// few.
 pub fn hold(
     row: &mut [i64],
     a: &[i64],

@@ -4,14 +4,14 @@ ghost use Rattle.lublock_kernels.specs.Blocks.{BlockLaw};
 ghost use Rattle.lublock_kernels.specs.Parts.{JoinLaw, PartLaw};
 ghost use Rattle.lublock_kernels.specs.Wholes.{NextLaw, SubLaw, WholeLaw};
 
-/// A block whose words solve each flow by itself, tick by tick, has the program's solution at the block's instants, whatever order the
-/// words were found in.
+/// A block whose words solve each flow by itself, tick by tick, has the program's solution at the block's
+/// instants, whatever order the words were found in.
 pub fn block_law()
     ensures { BlockLaw }
 {}
 
-/// A block of a part of a program, whose own flows are solved each by itself and whose taken flows came as messages of what computes
-/// them, has the solution of the whole program at all flows of the part.
+/// A block of a part of a program, whose own flows are solved each by itself and whose taken flows came as
+/// messages of what computes them, has the solution of the whole program at all flows of the part.
 pub fn part_law()
     ensures { PartLaw }
 {}

@@ -1,4 +1,5 @@
-//! Division by a number that stays: the quotient is found by a multiplication, looked at, and found by a division where it isn't right.
+//! Division by a number that stays: the quotient is found by a multiplication, looked at, and found by a
+//! division where it isn't right.
 
 ghost use Rattle.std.specs.Prelude.{◌≡◌, ◌≢◌, ◌≤◌, ◌<◌, ◌+◌, ◌*◌, ℕ, pos, negsuc, neg_ℤ, int_le, unsigned_abs, suc, length, true, false, IfSome};
 ghost use Rattle.luflow.specs.Operators.{int_of, quotient_of, rest_of};

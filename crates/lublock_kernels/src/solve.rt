@@ -76,8 +76,8 @@ fn solve_operator(
     }
 }
 
-/// Writes the words that the form of flow i asks for at the ticks from `from` to `to`, where the block begins at instant `t`; whether
-/// some tick has none, or what it reads isn't there.
+/// Writes the words that the form of flow i asks for at the ticks from `from` to `to`, where the block begins
+/// at instant `t`; whether some tick has none, or what it reads isn't there.
 pub fn solve_form(
     flat: &Flat,
     inputs: &Inputs,

@@ -1,7 +1,8 @@
-//! In which order a block's flows are worked out, and a pass through each cycle. Whoever uses it looks at what it gives, so its calls promise
-//! nothing but that they end.
+//! In which order a block's flows are worked out, and a pass through each cycle. Whoever uses it looks at
+//! what it gives, so its calls promise nothing but that they end.
 //!
-//! - [`Plan`], [`Step`]: the order of a program's flows; [`site_plan`], [`SitePlan`], [`SiteStep`]: that of what one site does.
+//! - [`Plan`], [`Step`]: the order of a program's flows; [`site_plan`], [`SitePlan`], [`SiteStep`]: that of
+//!   what one site does.
 //! - [`needed`], [`needed_of`]: the main variables that are put out.
 //! - [`Cycle`], [`CycleClock`], [`CyclePre`], [`Twin`]: a cycle of flows, and what its `pre`s give.
 #![tactic(auto)]

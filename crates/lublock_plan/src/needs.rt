@@ -3,7 +3,8 @@
 use luflow::{Flat, Role};
 use std::alloc::{AllocError, Global};
 
-/// The main variables whose statuses are put out: the outputs and the variables of their clocks, in order of rank.
+/// The main variables whose statuses are put out: the outputs and the variables of their clocks, in order of
+/// rank.
 ///
 /// # Errors
 ///
@@ -16,7 +17,8 @@ pub fn needed(alloc: Global, flat: &Flat) -> Result<Vec<usize>, AllocError> {
     needed_of(alloc, flat, wanted.as_slice())
 }
 
-/// The main variables that are marked and the variables of their clocks, in order of rank. A variable without a mark isn't marked.
+/// The main variables that are marked and the variables of their clocks, in order of rank. A variable without
+/// a mark isn't marked.
 ///
 /// # Errors
 ///

@@ -1,5 +1,5 @@
-//! The order in which a block's flows are worked out. What is read is tested where it is read, so nothing depends on the order but the
-//! time that it takes.
+//! The order in which a block's flows are worked out. What is read is tested where it is read, so nothing
+//! depends on the order but the time that it takes.
 
 use crate::cycle::Cycle;
 use crate::cycle_code::put;
@@ -8,8 +8,8 @@ use crate::search::{Parts, is_cycle};
 use luflow::{Clock, Datum, Flat};
 use std::alloc::{AllocError, Global};
 
-/// What is done at a time: all ticks of one flow, which has the clock of another that was counted before it, or of itself; or, for the cycle of
-/// this number, what its `pre`s give.
+/// What is done at a time: all ticks of one flow, which has the clock of another that was counted before it,
+/// or of itself; or, for the cycle of this number, what its `pre`s give.
 #[derive(Clone, Copy, Drop)]
 pub enum Step {
     Column(usize, usize),
@@ -36,8 +36,9 @@ impl Drop for Plan {
 }
 
 impl Plan {
-    /// An order for all flows of a program, in a time that grows with the flows and with what they read. Where the search takes more steps than
-    /// are allowed, the plan is empty, and nothing is worked out by it.
+    /// An order for all flows of a program, in a time that grows with the flows and with what they read.
+    /// Where the search takes more steps than are allowed, the plan is empty, and nothing is worked out by
+    /// it.
     pub fn new(alloc: Global, flat: &Flat, instants: usize) -> Result<Plan, AllocError> {
         let mut plan = Plan::empty(alloc, flat)?;
         let Some(parts) = Parts::of(alloc, flat)? else {
@@ -62,7 +63,8 @@ impl Plan {
         })
     }
 
-    /// Places a part: a flow that doesn't lead to itself; or a cycle, first what its `pre`s give, then its other flows, then its `pre`s.
+    /// Places a part: a flow that doesn't lead to itself; or a cycle, first what its `pre`s give, then its
+    /// other flows, then its `pre`s.
     pub(crate) fn place(
         &mut self,
         alloc: Global,

@@ -13,7 +13,8 @@ fn filled_of(flat: &Flat, form: &Form) -> Option<usize> {
     }
 }
 
-/// Number k of what flow i reads: the variable of its clock, that of the clock that a `current` fills up, and its operands.
+/// Number k of what flow i reads: the variable of its clock, that of the clock that a `current` fills up, and
+/// its operands.
 pub fn read_of(flat: &Flat, i: usize, k: usize) -> Option<usize> {
     let Some(flow) = flat.flows().get(i) else {
         return None;

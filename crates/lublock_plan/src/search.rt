@@ -8,8 +8,8 @@ use std::alloc::{AllocError, Global};
 /// More steps than the search for cycles takes: one for each flow and for each thing that a flow reads.
 const MOST_STEPS: usize = 16_777_216;
 
-/// A search for the parts of a program of which each flow leads, by what it reads, to each other: those that a part reads are found before
-/// it.
+/// A search for the parts of a program of which each flow leads, by what it reads, to each other: those that
+/// a part reads are found before it.
 #[derive(Drop)]
 struct Search {
     /// When each flow was come to, from 1 on; 0 before.
@@ -56,7 +56,8 @@ impl Search {
         }
     }
 
-    /// All that a flow reads was looked at: where it leads to no earlier flow, those that were come to since are a part.
+    /// All that a flow reads was looked at: where it leads to no earlier flow, those that were come to since
+    /// are a part.
     fn leave(&mut self, i: usize) {
         let low = at(self.low.as_slice(), i);
         if low == at(self.found.as_slice(), i) {
@@ -137,7 +138,8 @@ impl Search {
     }
 }
 
-/// The parts of a program, those that a part reads before it, as the search finds them: so they are the same wherever they are looked for.
+/// The parts of a program, those that a part reads before it, as the search finds them: so they are the same
+/// wherever they are looked for.
 #[derive(Drop)]
 pub struct Parts {
     /// The flows part by part, each in order of rank.

@@ -1,5 +1,5 @@
-//! The order in which one site works out a block of its flows, takes the words of others from links, and puts its own to them. The order of the
-//! program's parts is the same at each site.
+//! The order in which one site works out a block of its flows, takes the words of others from links, and puts
+//! its own to them. The order of the program's parts is the same at each site.
 
 use crate::cycle::Cycle;
 use crate::cycle_code::{at, put};
@@ -13,7 +13,8 @@ use std::mem;
 /// What a site does at a time.
 #[derive(Clone, Copy, Drop)]
 pub enum SiteStep {
-    /// Takes the words of a flow from the end of this number: the end, the flow, and a flow of the same clock that was counted before it, or itself.
+    /// Takes the words of a flow from the end of this number: the end, the flow, and a flow of the same clock
+    /// that was counted before it, or itself.
     Take(usize, usize, usize),
     /// Finds all words of a flow, which has the clock of another that was counted before it, or of itself.
     Column(usize, usize),
@@ -172,9 +173,10 @@ fn count_marked(marks: &[bool], flows: &[usize]) -> usize {
     flows.iter().filter(|i| is_marked(marks, **i)).count()
 }
 
-/// An order for what a site does in blocks of so many instants, given which flows it computes and which of the others it takes, the flow that each of
-/// its receiving ends brings, and the one that each of its sending ends carries. None where it doesn't work in blocks: of some cycle it computes some
-/// flows and not all, or a flow that it takes has no end, or the search for cycles takes more steps than are allowed.
+/// An order for what a site does in blocks of so many instants, given which flows it computes and which of
+/// the others it takes, the flow that each of its receiving ends brings, and the one that each of its sending
+/// ends carries. None where it doesn't work in blocks: of some cycle it computes some flows and not all, or a
+/// flow that it takes has no end, or the search for cycles takes more steps than are allowed.
 ///
 /// # Errors
 ///

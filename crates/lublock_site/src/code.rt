@@ -20,7 +20,8 @@ const INSTANTS: usize = 256;
 /// The most messages of a link that are put or taken at once.
 const RUN: usize = 64;
 
-/// What of a site's code stays in a run: the program, which flows are computed and which are taken, and the order of the steps.
+/// What of a site's code stays in a run: the program, which flows are computed and which are taken, and the
+/// order of the steps.
 #[derive(Drop)]
 pub struct SiteCode {
     pub flat: Arc<Flat>,
@@ -45,7 +46,8 @@ pub struct CodeParts {
     pub run: usize,
 }
 
-/// One site's part of a plan, for blocks of instants, made from the plan alone. A contract sees the plan and the site.
+/// One site's part of a plan, for blocks of instants, made from the plan alone. A contract sees the plan and
+/// the site.
 pub struct RowCode {
     plan: Snapshot<Plan>,
     site: u8,
@@ -104,8 +106,9 @@ fn order_of(
     )
 }
 
-/// What is worked out of a site's part of a plan, for runs of at most so many instants. None where the site doesn't work in blocks: a flow that it
-/// sends may be nil, what it computes and takes isn't a part of the program, or no order of its steps was found.
+/// What is worked out of a site's part of a plan, for runs of at most so many instants. None where the site
+/// doesn't work in blocks: a flow that it sends may be nil, what it computes and takes isn't a part of the
+/// program, or no order of its steps was found.
 fn parts_of(
     alloc: Global,
     plan: &Plan,
@@ -150,8 +153,8 @@ fn parts_of(
 }
 
 impl RowCode {
-    /// A site's part of a plan, with room for runs of at most so many instants. None where the site can't be run by blocks: a flow that it sends may be
-    /// nil, or a cycle is parted over sites.
+    /// A site's part of a plan, with room for runs of at most so many instants. None where the site can't be
+    /// run by blocks: a flow that it sends may be nil, or a cycle is parted over sites.
     ///
     /// # Errors
     ///

@@ -89,7 +89,8 @@ fn links_by(
     Ok(Some(links))
 }
 
-/// The links out of a site, in order of number. None where the flow of one isn't computed there, or may be nil.
+/// The links out of a site, in order of number. None where the flow of one isn't computed there, or may be
+/// nil.
 ///
 /// # Errors
 ///

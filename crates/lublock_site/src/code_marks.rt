@@ -41,7 +41,8 @@ fn mark(marks: &mut Vec<bool>, i: usize)
     }
 }
 
-/// Marks the flows that links bring to a site. None where one isn't among the program's flows, or is computed there.
+/// Marks the flows that links bring to a site. None where one isn't among the program's flows, or is computed
+/// there.
 fn taken_marks(
     alloc: Global,
     plan: &Plan,
@@ -64,8 +65,8 @@ fn taken_marks(
     Ok(Some(taken))
 }
 
-/// Which flows a site computes, and which links bring to it. None where one that a link brings is also computed there, or where they aren't a part
-/// of the program.
+/// Which flows a site computes, and which links bring to it. None where one that a link brings is also
+/// computed there, or where they aren't a part of the program.
 ///
 /// # Errors
 ///
@@ -130,7 +131,8 @@ fn are_known(own: &[bool], taken: &[bool], needs: &[usize]) -> bool
     true
 }
 
-/// The variables whose statuses are kept for these outputs: they, and the variables of their clocks. None where some isn't known at the site.
+/// The variables whose statuses are kept for these outputs: they, and the variables of their clocks. None
+/// where some isn't known at the site.
 ///
 /// # Errors
 ///

@@ -46,8 +46,9 @@ fn missing(spans: &[Span], i: usize) -> Option<usize> {
     }
 }
 
-/// Finds all words of own flow i, which has the clock of flow `like`, in a block of `len` instants from `t` on: of an input from its column, of
-/// another flow from the rows that it reads. `none` is a table without columns. True where some word isn't found.
+/// Finds all words of own flow i, which has the clock of flow `like`, in a block of `len` instants from `t`
+/// on: of an input from its column, of another flow from the rows that it reads. `none` is a table without
+/// columns. True where some word isn't found.
 pub fn own_column(
     alloc: Global,
     flat: &Flat,

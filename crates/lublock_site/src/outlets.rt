@@ -14,7 +14,8 @@ use luflow::{Body, Flat, Msg};
 use lulink::{Offer, Tx};
 use luworld::Turn;
 
-/// The sending end of a link, the flow that it carries, how many of its ticks in the block it has sent, and the number of its next message.
+/// The sending end of a link, the flow that it carries, how many of its ticks in the block it has sent, and
+/// the number of its next message.
 #[derive(Drop)]
 pub struct Outlet {
     pub tx: Tx,
@@ -25,7 +26,8 @@ pub struct Outlet {
     pub closed: bool,
 }
 
-/// Fills a run with the messages of the end's next ticks, up to tick `to`. False where one of them has no datum or no number.
+/// Fills a run with the messages of the end's next ticks, up to tick `to`. False where one of them has no
+/// datum or no number.
 fn fill(
     flat: &Flat,
     rows: &[Vec<i64>],
@@ -50,8 +52,8 @@ fn fill(
     fill_run(kind, row, outlet.sent, outlet.number, run, to - outlet.sent)
 }
 
-/// Puts the messages of the end's next ticks, as many as there is room for and no more than one run. It is over where a message has no
-/// datum or no number.
+/// Puts the messages of the end's next ticks, as many as there is room for and no more than one run. It is
+/// over where a message has no datum or no number.
 fn offer_some(
     flat: &Flat,
     rows: &[Vec<i64>],
@@ -78,8 +80,8 @@ fn offer_some(
     moved_if(put == run.len())
 }
 
-/// Puts the messages of the end's next ticks, as many as there is room for and no more than one run. It is over where the receiver has left a
-/// full link, or a message has no datum or no number.
+/// Puts the messages of the end's next ticks, as many as there is room for and no more than one run. It is
+/// over where the receiver has left a full link, or a message has no datum or no number.
 fn put_some(
     flat: &Flat,
     rows: &[Vec<i64>],

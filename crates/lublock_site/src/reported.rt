@@ -15,7 +15,8 @@ fn take_out(alloc: Global, columns: &mut Vec<Vec<Status>>, v: usize) -> Vec<Stat
     mem::replace(&mut columns[v], Vec::new(alloc))
 }
 
-/// The row of an output: its column, where it is here, and an empty one elsewhere. None where the column hasn't so many statuses.
+/// The row of an output: its column, where it is here, and an empty one elsewhere. None where the column
+/// hasn't so many statuses.
 fn output_row(
     alloc: Global,
     columns: &mut Vec<Vec<Status>>,

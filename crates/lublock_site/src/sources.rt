@@ -14,7 +14,8 @@ use luflow::{Body, Flat, Msg};
 use lulink::Rx;
 use luworld::Turn;
 
-/// The receiving end of a link, the flow that it brings, and how many of its ticks in the block it has brought.
+/// The receiving end of a link, the flow that it brings, and how many of its ticks in the block it has
+/// brought.
 #[derive(Drop)]
 pub struct Source {
     pub rx: Rx,
@@ -24,8 +25,8 @@ pub struct Source {
     pub closed: bool,
 }
 
-/// Puts the data of messages behind the words of flow i, in order. False where there is no room, where one isn't of the flow's type, or is
-/// the close.
+/// Puts the data of messages behind the words of flow i, in order. False where there is no room, where one
+/// isn't of the flow's type, or is the close.
 pub fn take_messages(flat: &Flat, board: &mut Board, i: usize, msgs: &[Msg]) -> bool
     ensures { result ≡ true → HasTakenMessages flat.now i msgs.now board.old board.new }
 {
@@ -54,7 +55,8 @@ pub fn take_messages(flat: &Flat, board: &mut Board, i: usize, msgs: &[Msg]) -> 
     true
 }
 
-/// Takes the next messages of a link into the row of its flow, as many as are there, at most so many, and no more than one run.
+/// Takes the next messages of a link into the row of its flow, as many as are there, at most so many, and no
+/// more than one run.
 fn poll_some(
     flat: &Flat,
     board: &mut Board,
@@ -77,8 +79,8 @@ fn poll_some(
     moved_if(came != 0)
 }
 
-/// Takes the next messages of a link into the row of its flow, at most so many. It is over where the sender has left and nothing is left to
-/// take.
+/// Takes the next messages of a link into the row of its flow, at most so many. It is over where the sender
+/// has left and nothing is left to take.
 fn take_some(
     flat: &Flat,
     board: &mut Board,
@@ -144,7 +146,8 @@ fn poll_close(source: &mut Source) -> Turn
     }
 }
 
-/// Takes the close of a link, if it is there. It is over where another message is there, or the sender has left and nothing is left to take.
+/// Takes the close of a link, if it is there. It is over where another message is there, or the sender has
+/// left and nothing is left to take.
 pub fn take_close(source: &mut Source) -> Turn
     ensures { IfGoes result (IsLater source.old source.new) }
 {

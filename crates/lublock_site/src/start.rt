@@ -16,7 +16,8 @@ use luplace::SiteInputs;
 use std::alloc::{AllocError, Global};
 use std::mem;
 
-/// A site in rows before its first block, and what its code has of outputs. None where the ends aren't those that the code names, in its order.
+/// A site in rows before its first block, and what its code has of outputs. None where the ends aren't those
+/// that the code names, in its order.
 ///
 /// # Errors
 ///

@@ -30,7 +30,8 @@ fn link_at(links: &[SiteLink], k: usize) -> Option<SiteLink>
     links.get(k).copied()
 }
 
-/// The receiving ends of these links, in their order, as they stand before the first block. None where the ends aren't those.
+/// The receiving ends of these links, in their order, as they stand before the first block. None where the
+/// ends aren't those.
 ///
 /// # Errors
 ///
@@ -74,7 +75,8 @@ fn outlet_of(link: SiteLink, tx: Tx) -> Option<Outlet>
     })
 }
 
-/// The sending ends of these links, in their order, as they stand before the first block. None where the ends aren't those.
+/// The sending ends of these links, in their order, as they stand before the first block. None where the ends
+/// aren't those.
 ///
 /// # Errors
 ///

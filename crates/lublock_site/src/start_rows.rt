@@ -35,7 +35,8 @@ fn first_spans(alloc: Global, taken: &[bool]) -> Result<Vec<Span>, AllocError>
     Ok(spans)
 }
 
-/// A row for each flow, with room for blocks of so many instants where the flow is computed or taken, and empty for the others.
+/// A row for each flow, with room for blocks of so many instants where the flow is computed or taken, and
+/// empty for the others.
 fn first_rows(alloc: Global, marks: &Marks, instants: usize) -> Result<Vec<Vec<i64>>, AllocError> {
     let own = marks.own.as_slice();
     let taken = marks.taken.as_slice();
@@ -64,7 +65,8 @@ pub fn first_board(alloc: Global, marks: &Marks, instants: usize) -> Result<Boar
     Ok(Board { rows, spans })
 }
 
-/// How many statuses of a main variable are kept at most: of an output those of all instants, of another variable those of a block.
+/// How many statuses of a main variable are kept at most: of an output those of all instants, of another
+/// variable those of a block.
 fn room_for(flat: &Flat, v: usize, all: usize, block: usize) -> usize {
     match flat.variables().get(v) {
         Some(variable) if variable.role.is_output() => all,

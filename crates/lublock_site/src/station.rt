@@ -19,8 +19,8 @@ use std::marker::Model;
 /// How many steps a station does before another one has its turn.
 const STEPS: u32 = 4096;
 
-/// A site that works in blocks of instants, and the ends of its links. A contract sees its job and its site. One that is
-/// dropped leaves its ends.
+/// A site that works in blocks of instants, and the ends of its links. A contract sees its job and its site.
+/// One that is dropped leaves its ends.
 pub struct RowStation {
     inner: RowSite,
     /// For each output of the main node its variable where the site is its home.
@@ -55,8 +55,8 @@ impl Model for RowStation {
 }
 
 impl RowStation {
-    /// A new station of a site whose code was made before, from the site's inputs and the unused ends of all its links. None where an end isn't there
-    /// that the code names, in order of links.
+    /// A new station of a site whose code was made before, from the site's inputs and the unused ends of all
+    /// its links. None where an end isn't there that the code names, in order of links.
     ///
     /// # Errors
     ///
@@ -99,7 +99,8 @@ impl RowStation {
         self.inner.site
     }
 
-    /// The first instant of the block at hand, from 0; behind the last block the number of instants. Takes no memory.
+    /// The first instant of the block at hand, from 0; behind the last block the number of instants. Takes no
+    /// memory.
     pub fn instant(&self) -> u32 {
         u32::try_from(self.inner.t).unwrap_or(u32::MAX)
     }
@@ -112,8 +113,8 @@ impl RowStation {
             .saturating_add(self.inner.sources.len())
     }
 
-    /// What the end of this place has counted, from 0 on: first the sending ends, then the receiving ones. None where there is no
-    /// such end. Takes no memory.
+    /// What the end of this place has counted, from 0 on: first the sending ends, then the receiving ones.
+    /// None where there is no such end. Takes no memory.
     pub fn end(&self, place: usize) -> Option<EndTally>
         ensures { IfSome result (λ e. e.tally.waited ≤ e.tally.passed + 1) }
     {
@@ -139,7 +140,8 @@ impl RowStation {
         turn
     }
 
-    /// Goes on until a link is empty or full, or the site is over, or it has done many steps. Never waits, and takes no memory.
+    /// Goes on until a link is empty or full, or the site is over, or it has done many steps. Never waits,
+    /// and takes no memory.
     pub fn go(&mut self) -> Turn
         ensures { self.new ≡ self.old }
     {
@@ -158,8 +160,9 @@ impl RowStation {
         Turn::Moved
     }
 
-    /// A row for each output of the main node, in order of declaration: all its statuses where the site is its home, and an empty one elsewhere. They
-    /// are moved out of the station, and not copied. None where the site hasn't ended. The ends are left.
+    /// A row for each output of the main node, in order of declaration: all its statuses where the site is
+    /// its home, and an empty one elsewhere. They are moved out of the station, and not copied. None where
+    /// the site hasn't ended. The ends are left.
     pub fn outputs(self) -> Option<Vec<Vec<Status>>>
         ensures sound { IfSome result (λ _. IsSoundAt self.job self.site) }
         ensures whole { IfSome result

@@ -65,7 +65,8 @@ fn write_words(kind: Kind, row: &mut [i64], from: usize, msgs: &[Msg]) -> bool
     true
 }
 
-/// Writes the data of messages as words of a row of this type, from tick `from` on. False where one of them is of another type, or the close.
+/// Writes the data of messages as words of a row of this type, from tick `from` on. False where one of them
+/// is of another type, or the close.
 pub fn write_messages(kind: Kind, row: &mut Vec<i64>, from: usize, msgs: &[Msg]) -> bool
     requires room { suc (from + length msgs.now) ≤ length row.old.items }
     ensures kept { Keeps from row.old.items row.new.items }
@@ -118,8 +119,9 @@ fn message_of(kind: Kind, row: &[i64], tick: usize, number: u32, k: usize) -> Op
     })
 }
 
-/// Fills a run with the messages of a row's ticks from this one on, numbered from this number on: as many as it has room for, at most so
-/// many. False where a word is a name of no such number, or there is no number left.
+/// Fills a run with the messages of a row's ticks from this one on, numbered from this number on: as many as
+/// it has room for, at most so many. False where a word is a name of no such number, or there is no number
+/// left.
 pub fn fill_run(
     kind: Kind,
     row: &[i64],

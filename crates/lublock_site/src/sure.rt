@@ -12,7 +12,8 @@ use crate::parts::{clock_known, form_known, is_marked};
 use lublock::Board;
 use luflow::Flat;
 
-/// Looks whether these flows have all their words, and whether what was supposed of them is right; true where something is missing or wrong.
+/// Looks whether these flows have all their words, and whether what was supposed of them is right; true where
+/// something is missing or wrong.
 fn settle_all(flat: &Flat, board: &mut Board, flows: &[usize]) -> bool
     ensures stands { (inputs : InputsView) (t len : ℕ)
         → StandsStill flat.now inputs t len board.old board.new }
@@ -72,8 +73,8 @@ fn read_marked(flat: &Flat, own: &[bool], marks: &[bool], flows: &[usize]) -> bo
     true
 }
 
-/// Looks whether these flows are found, and whether all that they read is sure or among them, so that they are sure now; true where that
-/// isn't so.
+/// Looks whether these flows are found, and whether all that they read is sure or among them, so that they
+/// are sure now; true where that isn't so.
 pub fn admit(
     flat: &Flat,
     own: &[bool],

@@ -13,7 +13,8 @@ use lutab::put_datum;
 use lutree::Kind;
 use std::alloc::AllocError;
 
-/// The mark that fills a cell of a truth value: `#` where it is true, `_` where it is false, `.` where it is absent.
+/// The mark that fills a cell of a truth value: `#` where it is true, `_` where it is false, `.` where it is
+/// absent.
 pub fn mark_of(kind: Kind, status: Status) -> Option<&'static str>
     ensures { option_map (λ s. s.now) result ≡ mark_of kind status }
 {

@@ -214,11 +214,12 @@ fn count_shown(instants: usize, from: Option<u32>, to: Option<u32>) -> usize
     end.saturating_sub(from.unwrap_or(0) as usize)
 }
 
-/// The chronogram of columns of these types, in a program with these enumerations, at the instants from one to another, counted
-/// from 0, both of which are shown: a row for each column, under a row of the instants' numbers, and a cell for each instant.
-/// Without the one it begins at instant 0, and without the other it goes to the last; what lies beyond the last instant is left out,
-/// and where no instant is left the names stand alone, a line each. It is cut into strips of 100 columns, as far as names and
-/// values leave that open, with an empty line between two. The time grows with the text.
+/// The chronogram of columns of these types, in a program with these enumerations, at the instants from one
+/// to another, counted from 0, both of which are shown: a row for each column, under a row of the instants'
+/// numbers, and a cell for each instant. Without the one it begins at instant 0, and without the other it
+/// goes to the last; what lies beyond the last instant is left out, and where no instant is left the names
+/// stand alone, a line each. It is cut into strips of 100 columns, as far as names and values leave that
+/// open, with an empty line between two. The time grows with the text.
 ///
 /// # Errors
 ///

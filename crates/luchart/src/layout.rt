@@ -17,7 +17,8 @@ const LINE_WIDTH: usize = 100;
 /// The most columns that a cell gets.
 const WIDEST_CELL: usize = 40;
 
-/// How a chart is laid out: it shows so many instants from the first on, in cells of this width behind names in a margin.
+/// How a chart is laid out: it shows so many instants from the first on, in cells of this width behind names
+/// in a margin.
 #[derive(Clone, Copy)]
 pub struct Layout {
     pub first: usize,

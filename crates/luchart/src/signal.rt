@@ -12,7 +12,8 @@ use luflow::{Datum, Enum, Status, names_of};
 use lutree::Kind;
 use std::alloc::{AllocError, Global};
 
-/// A flow: its name, its type, the names of its type where that is an enumeration, and what it has at each instant.
+/// A flow: its name, its type, the names of its type where that is an enumeration, and what it has at each
+/// instant.
 #[derive(Clone, Copy)]
 pub struct Signal<'a> {
     pub name: &'a str,

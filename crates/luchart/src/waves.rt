@@ -291,10 +291,11 @@ fn dumped(
     Ok(text)
 }
 
-/// The value change dump of columns of these types, of a main node of this name, in a program with these enumerations. An instant
-/// is a microsecond of the viewer's time. A flow of truth values is a wire, one of numbers an integer of 64 bits, and one of an
-/// enumeration a string (which the standard hasn't, and viewers have). Absent is `z`, nil is `x`; of a string they are `-` and
-/// `nil`. The time grows with the number of flows times the number of instants.
+/// The value change dump of columns of these types, of a main node of this name, in a program with these
+/// enumerations. An instant is a microsecond of the viewer's time. A flow of truth values is a wire, one of
+/// numbers an integer of 64 bits, and one of an enumeration a string (which the standard hasn't, and viewers
+/// have). Absent is `z`, nil is `x`; of a string they are `-` and `nil`. The time grows with the number of
+/// flows times the number of instants.
 ///
 /// # Errors
 ///

@@ -10,7 +10,8 @@ use thiserror::Error;
 pub enum CoreError {
     /// The flat program would have more than 4,096 flows.
     TooLarge,
-    /// A flow reads itself through a chain of reads at one instant. The variable is the one in whose equation it stands.
+    /// A flow reads itself through a chain of reads at one instant. The variable is the one in whose equation
+    /// it stands.
     Cycle { variable: Name },
     /// Memory ran out.
     OutOfMemory,

@@ -19,7 +19,7 @@ use luflow::{Flat, Flow, Variable};
 use lustat::Checked;
 use std::alloc::{AllocError, Global};
 
-// The name of the main variable in whose equation a flow stands.
+/// The name of the main variable in whose equation a flow stands.
 fn owner_name(
     alloc: Global,
     owners: &[usize],
@@ -34,7 +34,7 @@ fn owner_name(
     variables[owners[place]].name.copied(alloc)
 }
 
-// The order of ranks of flows, or the least place on a cycle.
+/// The order of ranks of flows, or the least place on a cycle.
 fn ranking(alloc: Global, flows: &[Flow]) -> Result<Ranking, AllocError>
     requires { AreClosed (map reads flows.now) }
     ensures order { IfOk result (λ found. IfOrdered found (IsRankOrder (map reads flows.now))) }
@@ -48,16 +48,19 @@ fn ranking(alloc: Global, flows: &[Flow]) -> Result<Ranking, AllocError>
 
 /// The flat program of a program that keeps all rules.
 ///
-/// Its list has the main variables at the first places, in order of declaration, each with the root of its equation; then,
-/// for the equations in order of text, their inner flows, operands before their operator, with all calls inlined.
+/// Its list has the main variables at the first places, in order of declaration, each with the root of its
+/// equation; then, for the equations in order of text, their inner flows, operands before their operator,
+/// with all calls inlined.
 ///
-/// The time grows with the length of the program, with the number of flows times its logarithm, and with the calls that are inlined.
+/// The time grows with the length of the program, with the number of flows times its logarithm, and with the
+/// calls that are inlined.
 ///
 /// # Errors
 ///
-/// `TooLarge` exactly where the list would have more than 4,096 flows, which is reported before any of it is built. Otherwise `Cycle`
-/// where a flow reads itself through a chain of reads at one instant, with the variable in whose equation the least such flow stands.
-/// `OutOfMemory` in place of any answer; nothing is kept.
+/// `TooLarge` exactly where the list would have more than 4,096 flows, which is reported before any of it is
+/// built. Otherwise `Cycle` where a flow reads itself through a chain of reads at one instant, with the
+/// variable in whose equation the least such flow stands. `OutOfMemory` in place of any answer; nothing is
+/// kept.
 pub fn flatten(alloc: Global, program: &Checked) -> Result<Flat, CoreError>
     ensures flat { IfOk result (IsFlatOf (program_view program.now.program) program.now.main) }
     ensures refuses { IfErr result (Refuses (program_view program.now.program) program.now.main) }

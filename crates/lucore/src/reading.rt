@@ -7,7 +7,7 @@ use lubase::Row;
 use luflow::{Clock, Flow, Form};
 use std::alloc::{AllocError, Global};
 
-// What a merge reads: its clock variable and its branches.
+/// What a merge reads: its clock variable and its branches.
 fn merge_reads(alloc: Global, variable: usize, branches: &[usize]) -> Result<Vec<usize>, AllocError>
     ensures { IfOk result (λ row. row.items ≡ variable ∷ branches.now) }
 {
@@ -16,7 +16,7 @@ fn merge_reads(alloc: Global, variable: usize, branches: &[usize]) -> Result<Vec
     Ok(row)
 }
 
-// What a flow reads at the same instant.
+/// What a flow reads at the same instant.
 fn reads_in(alloc: Global, flow: &Flow) -> Result<Row<usize>, AllocError>
     ensures { IfOk result (λ row. row ≡ reads flow.now) }
 {

@@ -22,7 +22,7 @@ pub struct Context<'c, 'l, 's> {
     pub lists: &'l [Vec<Flow>],
 }
 
-// A place that was looked up; behind all variables where none was found.
+/// A place that was looked up; behind all variables where none was found.
 fn place_or_end(scope: &Scope, place: Option<usize>) -> usize
     ensures { result ≡ unwrap_or place (length (variables_of (node_view scope.now))) }
 {
@@ -50,7 +50,7 @@ pub fn variable_clock<'a>(scope: &Scope<'a>, name: &str) -> PlacedClock<'a>
     }
 }
 
-// The value at which a clock with a pattern is true.
+/// The value at which a clock with a pattern is true.
 fn pattern_value(pattern: &PatternRef) -> Datum
     ensures { result ≡ pattern_value (the_pattern pattern.now) }
 {

@@ -11,7 +11,7 @@ use lutree::{Expr, Infix, Node};
 /// The most that is counted: one more than the most flows that a flat list may have.
 const MOST: usize = 4097;
 
-// The sum of two numbers, up to 4,097.
+/// The sum of two numbers, up to 4,097.
 fn capped_sum(a: usize, b: usize) -> usize
     ensures { result ≡ capped (a + b) }
 {
@@ -28,7 +28,7 @@ pub fn count_of(catalog: &Catalog, counts: &[usize], name: &str) -> usize
     }
 }
 
-// How many flows the root of an expression is: none for a variable and a call, one for any other.
+/// How many flows the root of an expression is: none for a variable and a call, one for any other.
 fn root(e: &Expr) -> usize
     ensures { result ≡ root_size (view e.now) }
 {
@@ -38,7 +38,7 @@ fn root(e: &Expr) -> usize
     }
 }
 
-// How many flows an operator makes between its operands and its own flow: `a fby b` makes `pre b`.
+/// How many flows an operator makes between its operands and its own flow: `a fby b` makes `pre b`.
 fn further(op: Infix) -> usize
     ensures { result ≡ further op }
 {
@@ -48,14 +48,14 @@ fn further(op: Infix) -> usize
     }
 }
 
-// What an expression makes, up to 4,097: its inner flows, of which the count is given, and its root.
+/// What an expression makes, up to 4,097: its inner flows, of which the count is given, and its root.
 fn with_root(inner: usize, e: &Expr) -> usize
     ensures { result ≡ capped (inner + root_size (view e.now)) }
 {
     capped_sum(inner, root(e))
 }
 
-// How many flows an expression makes before its root, up to 4,097, given the counts of all nodes.
+/// How many flows an expression makes before its root, up to 4,097, given the counts of all nodes.
 #[cycle(made)]
 fn inner(catalog: &Catalog, counts: &[usize], e: &Expr) -> usize
     ensures { result ≡ capped (made_size (program_view catalog.now) counts.now (view e.now) -
@@ -84,7 +84,7 @@ fn inner(catalog: &Catalog, counts: &[usize], e: &Expr) -> usize
     }
 }
 
-// How many flows the arguments of a call, or the branches of a merge, make, up to 4,097.
+/// How many flows the arguments of a call, or the branches of a merge, make, up to 4,097.
 #[cycle(made)]
 fn all_made(catalog: &Catalog, counts: &[usize], arguments: &[Expr]) -> usize
     ensures { result ≡ capped (all_size (program_view catalog.now) counts.now
@@ -98,8 +98,8 @@ fn all_made(catalog: &Catalog, counts: &[usize], arguments: &[Expr]) -> usize
     count
 }
 
-/// How many flows the open list of a node has, its variables and the inner flows of its equations, up to 4,097, given the counts of
-/// all nodes.
+/// How many flows the open list of a node has, its variables and the inner flows of its equations, up to
+/// 4,097, given the counts of all nodes.
 pub fn node_count(catalog: &Catalog, counts: &[usize], node: &Node) -> usize
     ensures { result ≡ capped (node_size (program_view catalog.now) counts.now
         (node_view node.now)) }

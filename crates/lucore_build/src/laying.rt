@@ -18,8 +18,8 @@ use luflow::{Enum, Flow, Variable};
 use lustat_rules::Catalog;
 use std::alloc::{AllocError, Global};
 
-/// A flat list: the flows, for each flow the number of the main variable in whose equation it stands, the main variables, and the
-/// program's types.
+/// A flat list: the flows, for each flow the number of the main variable in whose equation it stands, the
+/// main variables, and the program's types.
 #[derive(Drop)]
 pub struct FlatList {
     pub flows: Vec<Flow>,
@@ -28,7 +28,7 @@ pub struct FlatList {
     pub types: Vec<Enum>,
 }
 
-// An empty list for each node.
+/// An empty list for each node.
 fn no_lists(alloc: Global, count: usize) -> Result<Vec<Vec<Flow>>, AllocError>
     ensures { IfOk result (λ lists. length lists.items ≡ count) }
 {
@@ -39,7 +39,7 @@ fn no_lists(alloc: Global, count: usize) -> Result<Vec<Vec<Flow>>, AllocError>
     Ok(lists)
 }
 
-// The list of the node at a place, given the lists of the nodes that it calls.
+/// The list of the node at a place, given the lists of the nodes that it calls.
 fn list_at(
     alloc: Global,
     catalog: &Catalog,
@@ -61,7 +61,7 @@ fn list_at(
     node_list(alloc, &context)
 }
 
-// Whether a place has a mark.
+/// Whether a place has a mark.
 fn has_mark(marks: &[bool], place: usize) -> bool
     ensures { IsTrue result ↔ Has marks.now place }
 {
@@ -71,7 +71,7 @@ fn has_mark(marks: &[bool], place: usize) -> bool
     }
 }
 
-// The lists of the nodes with a mark among the first of an order.
+/// The lists of the nodes with a mark among the first of an order.
 fn lists_before(
     alloc: Global,
     catalog: &Catalog,
@@ -99,7 +99,7 @@ fn lists_before(
     Ok(lists)
 }
 
-// Where a place stands first in an order; behind all where it stands nowhere.
+/// Where a place stands first in an order; behind all where it stands nowhere.
 fn number_of(order: &[usize], place: usize) -> usize
     ensures inside { result ≤ length order.now }
     ensures there { Contains order.now place → slice_get order.now result ≡ Some place }
@@ -112,7 +112,7 @@ fn number_of(order: &[usize], place: usize) -> usize
     order.len()
 }
 
-// The list of the node at a place, and those of the nodes that it calls before it.
+/// The list of the node at a place, and those of the nodes that it calls before it.
 fn laid_at(
     alloc: Global,
     catalog: &Catalog,
@@ -142,8 +142,9 @@ fn laid_at(
     })
 }
 
-/// The flat list of a program, given an order of its nodes in which calls go backward. The lists of the nodes that the main node
-/// reaches are made, each once, and no others. Where no node has the main node's name, there is nothing in it.
+/// The flat list of a program, given an order of its nodes in which calls go backward. The lists of the nodes
+/// that the main node reaches are made, each once, and no others. Where no node has the main node's name,
+/// there is nothing in it.
 ///
 /// The time grows with the length of the program and of these lists.
 ///

@@ -11,13 +11,14 @@
 //!
 //! - [`lay_out`], [`FlatList`]: the flows of the main node's list, their owners and the main variables.
 //!
-//! Each node has one open list, made once, in an order in which calls go backward, and only of nodes that the main node
-//! reaches. An expression is walked once: its inner flows are put behind those before, and the walk gives its root and
-//! its type. A call puts a copy of the called node's list in place, moved.
+//! Each node has one open list, made once, in an order in which calls go backward, and only of nodes that the
+//! main node reaches. An expression is walked once: its inner flows are put behind those before, and the walk
+//! gives its root and its type. A call puts a copy of the called node's list in place, moved.
 //!
 //! # A called node's list, put in place where it is called
 //!
-//! - [`push_moved`]: the list, moved behind the flows before, on the clock of the call and with its arguments.
+//! - [`push_moved`]: the list, moved behind the flows before, on the clock of the call and with its
+//!   arguments.
 //! - [`Operand`], [`sum_of`]: where an argument stands, and sums of places.
 #![tactic(auto)]
 

@@ -9,7 +9,7 @@ use lubase::Row;
 use luflow::{Clock, Flow, Form};
 use std::alloc::{AllocError, Global};
 
-// Where the argument of a number stands; 0 where there is none.
+/// Where the argument of a number stands; 0 where there is none.
 fn argument_place(arguments: &[Operand], number: usize) -> usize
     ensures { result ≡ slice_index (places_of arguments.now) number }
 {
@@ -19,7 +19,7 @@ fn argument_place(arguments: &[Operand], number: usize) -> usize
     }
 }
 
-// The branches of a merge in a list that is moved to a place.
+/// The branches of a merge in a list that is moved to a place.
 fn branches_moved(alloc: Global, base: usize, branches: &[usize]) -> Result<Row<usize>, AllocError>
     ensures { IfOk result (λ row. row ≡ map (λ x. base + x) branches.now) }
 {
@@ -30,7 +30,7 @@ fn branches_moved(alloc: Global, base: usize, branches: &[usize]) -> Result<Row<
     Ok(Row::new(moved))
 }
 
-// A form of a list that is moved to a place.
+/// A form of a list that is moved to a place.
 fn form_moved(
     alloc: Global,
     base: usize,
@@ -57,7 +57,7 @@ fn form_moved(
     }
 }
 
-// A clock of a list that is moved to a place, where this clock takes the place of the base clock.
+/// A clock of a list that is moved to a place, where this clock takes the place of the base clock.
 fn clock_moved(base: usize, call: Clock, clock: Clock) -> Result<Clock, AllocError>
     ensures { IfOk result (λ k. k ≡ moved_clock base call clock) }
 {
@@ -67,7 +67,7 @@ fn clock_moved(base: usize, call: Clock, clock: Clock) -> Result<Clock, AllocErr
     }
 }
 
-// A flow of a list that is moved to a place.
+/// A flow of a list that is moved to a place.
 fn flow_moved(
     alloc: Global,
     base: usize,

@@ -11,7 +11,7 @@ use lustat_rules::Catalog;
 use lutype::graph_of;
 use std::alloc::{AllocError, Global};
 
-// Puts the links from a vertex behind those before.
+/// Puts the links from a vertex behind those before.
 fn push_links(links: &mut Vec<Link>, from: usize, row: &[usize]) -> Result<(), AllocError>
     ensures { OnOk result (links.new.items ≡ links.old.items ++ map (link from) row.now) }
 {
@@ -21,7 +21,7 @@ fn push_links(links: &mut Vec<Link>, from: usize, row: &[usize]) -> Result<(), A
     Ok(())
 }
 
-// The links of a graph's edges.
+/// The links of a graph's edges.
 fn links_of(alloc: Global, graph: &[Vec<usize>]) -> Result<Vec<Link>, AllocError>
     ensures { IfOk result (λ links. links.items ≡ links_from 0 graph.now) }
 {

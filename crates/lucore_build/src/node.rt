@@ -18,8 +18,8 @@ use lustat_rules::{PlacedClock, Scope};
 use lutree::{Equation, Kind};
 use std::alloc::{AllocError, Global};
 
-/// What the equations of a node make: behind places for its variables the inner flows, for each inner flow its owner, and for each
-/// name on a left side, in order, the flow of its variable.
+/// What the equations of a node make: behind places for its variables the inner flows, for each inner flow
+/// its owner, and for each name on a left side, in order, the flow of its variable.
 #[derive(Drop)]
 pub struct Parts {
     pub flows: Vec<Flow>,
@@ -27,7 +27,7 @@ pub struct Parts {
     pub defined: Vec<Flow>,
 }
 
-// The flow of a variable on the left side of an equation, by its number there.
+/// The flow of a variable on the left side of an equation, by its number there.
 fn defined_flow(
     alloc: Global,
     scope: &Scope,
@@ -50,7 +50,7 @@ fn defined_flow(
     }
 }
 
-// The flows of the variables on a left side, behind those before.
+/// The flows of the variables on a left side, behind those before.
 fn push_defined(
     alloc: Global,
     scope: &Scope,
@@ -90,7 +90,7 @@ pub fn first_name(left: &[Name]) -> &str
     }
 }
 
-// What one equation makes, behind what those before it made.
+/// What one equation makes, behind what those before it made.
 fn push_equation(
     alloc: Global,
     context: &Context,
@@ -137,7 +137,7 @@ pub fn vacant_flow() -> Flow
     }
 }
 
-// Places that are held for variables.
+/// Places that are held for variables.
 fn vacant_flows(alloc: Global, count: usize) -> Result<Vec<Flow>, AllocError>
     ensures { IfOk result (λ flows. flows.items ≡ replicate count vacant) }
 {

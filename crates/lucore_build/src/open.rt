@@ -14,7 +14,7 @@ use lustat_rules::Places;
 use lutree::{Declaration, Equation};
 use std::alloc::{AllocError, Global};
 
-// The names of a left side, behind those before.
+/// The names of a left side, behind those before.
 fn push_names<'a>(names: &mut Vec<&'a str>, left: &'a [Name]) -> Result<(), AllocError>
     ensures { OnOk result (map (λ n. n.now) names.new.items ≡ map (λ n. n.now) names.old.items
         ++ left.now) }
@@ -37,7 +37,7 @@ pub fn left_names(alloc: Global, equations: &[Equation]) -> Result<Vec<&str>, Al
     Ok(names)
 }
 
-// The flow of a variable, looked up by its name.
+/// The flow of a variable, looked up by its name.
 fn flow_found(
     alloc: Global,
     places: &Places,
@@ -99,7 +99,7 @@ pub fn push_behind(
     Ok(())
 }
 
-// Flows behind those before.
+/// Flows behind those before.
 fn push_all(alloc: Global, flows: &mut Vec<Flow>, more: &[Flow]) -> Result<(), AllocError>
     ensures { OnOk result (flows.new.items ≡ flows.old.items ++ more.now) }
 {

@@ -17,15 +17,15 @@ use lustat_rules::{Places, Scope};
 use lutree::{Declaration, Equation, Node};
 use std::alloc::{AllocError, Global};
 
-/// The list of a node, and for each flow the place of the first variable on the left side of its equation. An input's own place is its
-/// owner.
+/// The list of a node, and for each flow the place of the first variable on the left side of its equation. An
+/// input's own place is its owner.
 #[derive(Drop)]
 pub struct NodeList {
     pub flows: Vec<Flow>,
     pub owners: Vec<usize>,
 }
 
-// For each name on the left sides, in order, the place of the first variable on its side.
+/// For each name on the left sides, in order, the place of the first variable on its side.
 fn leaders_of(
     alloc: Global,
     scope: &Scope,
@@ -43,7 +43,7 @@ fn leaders_of(
     Ok(owners)
 }
 
-// The owner of a variable, looked up by its name.
+/// The owner of a variable, looked up by its name.
 fn owner_found(scope: &Scope, places: &Places, owners: &[usize], name: &str) -> usize
     ensures { result ≡ number_at owners.now (place_of (variables_of (node_view scope.now))
         name.now) (first_place places.now name.now) }
@@ -54,7 +54,7 @@ fn owner_found(scope: &Scope, places: &Places, owners: &[usize], name: &str) -> 
     }
 }
 
-// The owners of declared variables, behind those before.
+/// The owners of declared variables, behind those before.
 fn push_owners(
     owners: &mut Vec<usize>,
     scope: &Scope,
@@ -72,7 +72,8 @@ fn push_owners(
     Ok(())
 }
 
-// The flows of a node's inputs, outputs and locals, and behind them all of its parts but for the first ones, so many.
+/// The flows of a node's inputs, outputs and locals, and behind them all of its parts but for the first ones,
+/// so many.
 fn listed_flows(
     alloc: Global,
     node: &Node,
@@ -95,7 +96,7 @@ fn listed_flows(
     Ok(flows)
 }
 
-// The owners of declared variables of a node with these equations, and behind them those of its parts.
+/// The owners of declared variables of a node with these equations, and behind them those of its parts.
 fn listed_owners(
     alloc: Global,
     scope: &Scope,

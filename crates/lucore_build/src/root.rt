@@ -9,7 +9,8 @@ use luflow::Flow;
 use lutree::Kind;
 use std::alloc::AllocError;
 
-/// What stands at the root of an expression: a flow of its own, which has no place yet, or what stands at a place already.
+/// What stands at the root of an expression: a flow of its own, which has no place yet, or what stands at a
+/// place already.
 #[derive(Drop)]
 pub enum Root {
     Own(Flow),

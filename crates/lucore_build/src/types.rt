@@ -10,7 +10,7 @@ use luflow::Enum;
 use lutree::{DeclaredName, TypeDeclaration};
 use std::alloc::{AllocError, Global};
 
-// The names of an enumeration.
+/// The names of an enumeration.
 fn names_in(alloc: Global, names: &[DeclaredName]) -> Result<Row<Name>, AllocError>
     ensures { IfOk result (λ row. row ≡ map (λ (x : DeclaredName). x.name) names.now) }
 {

@@ -8,7 +8,7 @@ use luflow::{Role, Variable};
 use lutree::{Declaration, Node};
 use std::alloc::{AllocError, Global};
 
-// Puts variables of one role behind those before.
+/// Puts variables of one role behind those before.
 fn push_variables(
     alloc: Global,
     variables: &mut Vec<Variable>,

@@ -22,14 +22,14 @@ use lutree::{Declaration, Expr, Infix, Kind, Pattern, Prefix};
 use lutype::{agreed_kind, is_of_kind, kind_of_binary, kind_of_choice, kind_of_unary, only_kind};
 use std::alloc::{AllocError, Global};
 
-// The datum of a number.
+/// The datum of a number.
 fn constant(number: &Number) -> Datum
     ensures { result ≡ Datum.Int (pos number.now) }
 {
     Datum::Int(number.value() as i64)
 }
 
-// An operator before its operand.
+/// An operator before its operand.
 fn prefix(op: Prefix, place: usize) -> Form
     ensures { result ≡ prefix_form op place }
 {
@@ -39,7 +39,7 @@ fn prefix(op: Prefix, place: usize) -> Form
     }
 }
 
-// The type of an operator before its operand.
+/// The type of an operator before its operand.
 fn kind_of_prefix(op: Prefix, kind: Option<Kind>) -> Option<Kind>
     ensures { result ≡ prefix_kind op kind }
 {
@@ -49,7 +49,7 @@ fn kind_of_prefix(op: Prefix, kind: Option<Kind>) -> Option<Kind>
     }
 }
 
-// Two operands and what stands between them.
+/// Two operands and what stands between them.
 fn infix(
     scope: &Scope,
     flows: &mut Vec<Flow>,
@@ -82,7 +82,7 @@ fn infix(
     }
 }
 
-// Whether the arguments of a call are those that a node takes.
+/// Whether the arguments of a call are those that a node takes.
 fn arguments_have_kinds(arguments: &[Operand], inputs: &[Declaration]) -> bool
     ensures { result ≡ arguments_fit (kinds_of arguments.now) (declarations_view inputs.now) }
 {
@@ -94,7 +94,7 @@ fn arguments_have_kinds(arguments: &[Operand], inputs: &[Declaration]) -> bool
     arguments.len() == inputs.len()
 }
 
-// The type of a call.
+/// The type of a call.
 fn kind_of_call(catalog: &Catalog, name: &str, arguments: &[Operand]) -> Option<Kind>
     ensures { result ≡ only (call_kinds (node_called (program_view catalog.now) name.now)
         (kinds_of arguments.now)) }
@@ -107,7 +107,7 @@ fn kind_of_call(catalog: &Catalog, name: &str, arguments: &[Operand]) -> Option<
     }
 }
 
-// The pattern of a branch of a merge, which has as many; any other is `true`.
+/// The pattern of a branch of a merge, which has as many; any other is `true`.
 fn pattern_at(patterns: &[Pattern], branch: usize) -> PatternRef
     ensures { the_pattern result ≡ pattern_at patterns.now branch }
 {
@@ -117,7 +117,7 @@ fn pattern_at(patterns: &[Pattern], branch: usize) -> PatternRef
     }
 }
 
-// Where operands stand.
+/// Where operands stand.
 fn row_of_places(alloc: Global, operands: &[Operand]) -> Result<Row<usize>, AllocError>
     ensures { IfOk result (λ row. row ≡ places_of operands.now) }
 {
@@ -128,7 +128,7 @@ fn row_of_places(alloc: Global, operands: &[Operand]) -> Result<Row<usize>, Allo
     Ok(Row::new(places))
 }
 
-// The type that a type and those of some operands agree in, if they do.
+/// The type that a type and those of some operands agree in, if they do.
 fn kind_with(first: Option<Kind>, rest: &[Operand]) -> Option<Kind>
     ensures { result ≡ fold agreed first (kinds_of rest.now) }
 {
@@ -139,7 +139,7 @@ fn kind_with(first: Option<Kind>, rest: &[Operand]) -> Option<Kind>
     kind
 }
 
-// The type that all of some operands have, if there are any and they have one.
+/// The type that all of some operands have, if there are any and they have one.
 fn kind_of_branches(operands: &[Operand]) -> Option<Kind>
     ensures { result ≡ agreed_all (kinds_of operands.now) }
 {
@@ -149,7 +149,7 @@ fn kind_of_branches(operands: &[Operand]) -> Option<Kind>
     }
 }
 
-// A copy of the called node's list, with its arguments in place.
+/// A copy of the called node's list, with its arguments in place.
 fn instance_of(
     alloc: Global,
     context: &Context,
@@ -183,7 +183,8 @@ fn instance_of(
 
 /// The walk of an expression of a node, on a clock: puts its inner flows behind those before.
 ///
-/// The time grows with the length of the expression and of the lists that it calls, whatever the length of the clock's name.
+/// The time grows with the length of the expression and of the lists that it calls, whatever the length of
+/// the clock's name.
 ///
 /// # Errors
 ///
@@ -263,7 +264,7 @@ pub fn walk(
     }
 }
 
-// The walk of an operand of a node: where its root is a flow of its own, that has a place now.
+/// The walk of an operand of a node: where its root is a flow of its own, that has a place now.
 #[cycle(walk)]
 fn walk_operand(
     alloc: Global,
@@ -287,7 +288,7 @@ fn walk_operand(
     settled(walk(alloc, context, flows, e, clock)?, flows)
 }
 
-// The walk of a call: its arguments from left to right, then the called node's list.
+/// The walk of a call: its arguments from left to right, then the called node's list.
 #[cycle(walk)]
 fn call(
     alloc: Global,
@@ -313,7 +314,8 @@ fn call(
     instance_of(alloc, context, flows, name, operands.as_slice(), clock)
 }
 
-// The walk of a merge: its branches from left to right, each on the clock of its variable with the branch's pattern.
+/// The walk of a merge: its branches from left to right, each on the clock of its variable with the branch's
+/// pattern.
 #[cycle(walk)]
 fn merge(
     alloc: Global,

@@ -7,7 +7,7 @@ ghost use Rattle.lucore_laws.specs.Rank.{AreClosed, IsLeastOnCycle};
 use lubase::{Order, Row, order_of};
 use std::alloc::{AllocError, Global};
 
-// The same rows as a graph.
+/// The same rows as a graph.
 fn graph_of(alloc: Global, rows: &[Row<usize>]) -> Result<Vec<Vec<usize>>, AllocError>
     ensures { IfOk result (λ graph. map (λ list. list.items) graph.items ≡ rows.now) }
 {
@@ -18,7 +18,8 @@ fn graph_of(alloc: Global, rows: &[Row<usize>]) -> Result<Vec<Vec<usize>>, Alloc
     Ok(graph)
 }
 
-/// The least place that reads itself through a chain of reads, where one does. The time grows with the number of places and reads.
+/// The least place that reads itself through a chain of reads, where one does. The time grows with the number
+/// of places and reads.
 pub fn least_on_cycle(alloc: Global, rows: &[Row<usize>]) -> Result<usize, AllocError>
     requires closed { AreClosed rows.now }
     requires cycle { (x : ℕ) × Chain rows.now x x }

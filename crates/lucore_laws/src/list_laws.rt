@@ -7,7 +7,8 @@ ghost use Rattle.lucore_laws.specs.Open.{NodesLaw};
 ghost use Rattle.lucore_laws.specs.Sizes.{SizesLaw, CountLaw};
 ghost use Rattle.lucore_laws.specs.ListVectors.{VectorsLaw};
 
-/// The flows, owners and variables of worked programs, the sizes of the nodes of one, and that one has the solutions of its source.
+/// The flows, owners and variables of worked programs, the sizes of the nodes of one, and that one has the
+/// solutions of its source.
 pub fn vectors_law()
     ensures { VectorsLaw }
 {}
@@ -17,7 +18,8 @@ pub fn agrees_law()
     ensures { AgreesLaw }
 {}
 
-/// Each variable of each instance has a flow, whose stream in the flat program's solutions is the variable's in the source's.
+/// Each variable of each instance has a flow, whose stream in the flat program's solutions is the variable's
+/// in the source's.
 pub fn instances_law()
     ensures { InstancesLaw }
 {}
@@ -27,7 +29,8 @@ pub fn loop_law()
     ensures { LoopLaw }
 {}
 
-/// The list of each node of an accepted program has the solutions of the node, on any base clock and for any inputs.
+/// The list of each node of an accepted program has the solutions of the node, on any base clock and for any
+/// inputs.
 pub fn nodes_law()
     ensures { NodesLaw }
 {}

@@ -7,7 +7,8 @@ pub fn one_order_law()
     ensures { OneOrder }
 {}
 
-/// Where all reads are places, there is an order of ranks exactly where no place reads itself through a chain of reads.
+/// Where all reads are places, there is an order of ranks exactly where no place reads itself through a chain
+/// of reads.
 pub fn order_unless_cycle_law()
     ensures { OrderUnlessCycle }
 {}

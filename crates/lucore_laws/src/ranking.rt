@@ -22,7 +22,7 @@ pub enum Ranking {
     Cyclic(usize),
 }
 
-// How many reads each place has.
+/// How many reads each place has.
 fn reads_missing(alloc: Global, rows: &[Row<usize>]) -> Result<Vec<usize>, AllocError>
     ensures { IfOk result (λ missing. missing.items ≡ map (λ reads. length reads) rows.now) }
 {
@@ -33,7 +33,7 @@ fn reads_missing(alloc: Global, rows: &[Row<usize>]) -> Result<Vec<usize>, Alloc
     Ok(missing)
 }
 
-// The places that have no missing read.
+/// The places that have no missing read.
 fn free_places(alloc: Global, missing: &[usize]) -> Result<Ready, AllocError>
     ensures { IfOk result (AreFree missing.now) }
 {
@@ -47,12 +47,13 @@ fn free_places(alloc: Global, missing: &[usize]) -> Result<Ready, AllocError>
     Ok(ready)
 }
 
-/// The order of ranks of places with these rows of reads, or the least place that reads itself through a chain of reads.
+/// The order of ranks of places with these rows of reads, or the least place that reads itself through a
+/// chain of reads.
 ///
-/// The places are those of `rows`, from 0. The row at a place has the places that it reads, in any order and any number of times.
-/// The next rank goes to the least place among those without a rank whose reads all have one.
-/// There is an order exactly where no place reads itself through a chain of one read or more.
-/// The time grows with the number of reads, and with the number of places times its logarithm.
+/// The places are those of `rows`, from 0. The row at a place has the places that it reads, in any order and
+/// any number of times. The next rank goes to the least place among those without a rank whose reads all have
+/// one. There is an order exactly where no place reads itself through a chain of one read or more. The time
+/// grows with the number of reads, and with the number of places times its logarithm.
 ///
 /// # Errors
 ///

@@ -23,7 +23,7 @@ impl Model for Readers {
     ghost view = { λ r. map (λ list. list.items) r.lists.items };
 }
 
-// How many readers each place has, as far as that can be counted: the room for its list.
+/// How many readers each place has, as far as that can be counted: the room for its list.
 fn rooms(alloc: Global, rows: &[Row<usize>]) -> Result<Vec<usize>, AllocError>
     requires { AreClosed rows.now }
     ensures { IfOk result (λ rooms. length rooms.items ≡ length rows.now) }
@@ -38,7 +38,7 @@ fn rooms(alloc: Global, rows: &[Row<usize>]) -> Result<Vec<usize>, AllocError>
 }
 
 impl Readers {
-    // Empty lists, with room for so many readers each.
+    /// Empty lists, with room for so many readers each.
     fn none(alloc: Global, rooms: &[usize]) -> Result<Readers, AllocError>
         ensures long { IfOk result (λ readers. length readers ≡ length rooms.now) }
         ensures empty { IfOk result (λ readers. (x : ℕ) → row readers x ≡ []) }
@@ -50,7 +50,7 @@ impl Readers {
         Ok(Readers { lists })
     }
 
-    // One more reader of a place.
+    /// One more reader of a place.
     fn push(&mut self, place: usize, reader: usize) -> Result<(), AllocError>
         requires { place < length self.old }
         ensures { OnOk result (self.new ≡ slice_set self.old place
@@ -60,7 +60,7 @@ impl Readers {
         Ok(())
     }
 
-    // A place is put into the list of each of its reads.
+    /// A place is put into the list of each of its reads.
     fn add(&mut self, reader: usize, reads: &[usize]) -> Result<(), AllocError>
         requires { All (λ y. y < length self.old) reads.now }
         ensures { OnOk result (IsAdded reader reads.now self.old self.new) }

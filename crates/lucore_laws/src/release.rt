@@ -6,7 +6,7 @@ ghost use Rattle.lucore_laws.specs.Search.{times, IsReleased};
 use crate::ready::Ready;
 use std::alloc::AllocError;
 
-// One read of a place got its rank. The place is ready where that was the last one.
+/// One read of a place got its rank. The place is ready where that was the last one.
 fn release_one(missing: &mut Vec<usize>, ready: &mut Ready, place: usize) -> Result<(), AllocError>
     requires { 0 < slice_index missing.old.items place }
     ensures { OnOk result (IsReleased (place ∷ []) missing.old.items missing.new.items ready.old
@@ -20,8 +20,8 @@ fn release_one(missing: &mut Vec<usize>, ready: &mut Ready, place: usize) -> Res
     Ok(())
 }
 
-/// A place got its rank: its readers have one missing read less, and those are ready that have none any longer.
-/// After an error nothing is known.
+/// A place got its rank: its readers have one missing read less, and those are ready that have none any
+/// longer. After an error nothing is known.
 pub fn release(
     readers: &[usize],
     missing: &mut Vec<usize>,

@@ -7,7 +7,8 @@ pub fn sound_law()
     ensures { SoundLaw }
 {}
 
-/// A flow names main variables and flows of its own equation, and the inputs are the flows that read the table.
+/// A flow names main variables and flows of its own equation, and the inputs are the flows that read the
+/// table.
 pub fn inside_law()
     ensures { InsideLaw }
 {}

@@ -7,7 +7,7 @@ use lueval_lines::empty_columns;
 use luflow::Status;
 use std::alloc::{AllocError, Global};
 
-// Whether the stream of a flow is wanted.
+/// Whether the stream of a flow is wanted.
 fn is_wanted(wanted: &[bool], flow: usize) -> bool
     ensures { (result ≡ true) ↔ (slice_get wanted.now flow ≡ Some true) }
 {

@@ -1,8 +1,10 @@
 //! The evaluator of whole programs, and the value of one flow at one instant, on which it stands.
 //!
-//! - [`whole`], [`Streams`], [`EvalError`]: a program's only solution at a table, or its first fault; [`whole_outputs`]: its
-//!   outputs alone, in less memory; [`whole_columns`]: all its main variables by name; [`whole_flows`]: the streams of chosen flows.
-//! - [`fault_place`], [`FoundFault`]: the first fault, by its place, with the data of its operands; [`Reads`]: the places of these.
+//! - [`whole`], [`Streams`], [`EvalError`]: a program's only solution at a table, or its first fault;
+//!   [`whole_outputs`]: its outputs alone, in less memory; [`whole_columns`]: all its main variables by name;
+//!   [`whole_flows`]: the streams of chosen flows.
+//! - [`fault_place`], [`FoundFault`]: the first fault, by its place, with the data of its operands;
+//!   [`Reads`]: the places of these.
 //! - All that is public of `lueval_lines` but its code and columns: the data operators, lines and cells.
 #![tactic(auto)]
 

@@ -154,7 +154,8 @@ pub fn cell_at(shown: &[Cell], place: u16) -> Cell
     }
 }
 
-/// The last value of the flow of this place before now: nil before its first; absent where there is no such place.
+/// The last value of the flow of this place before now: nil before its first; absent where there is no such
+/// place.
 #[inline(always)]
 pub fn last_at(lasts: &[Cell], place: u16) -> Cell
     ensures { held result ≡ last_in (slice_get lasts.now place) }

@@ -2,8 +2,8 @@
 
 use luflow::Datum;
 
-/// What is kept of a flow from the instants before: its last value, whether its clock was true, and how often it was present. Contracts speak of it;
-/// a machine keeps a cell and a count in its place.
+/// What is kept of a flow from the instants before: its last value, whether its clock was true, and how often
+/// it was present. Contracts speak of it; a machine keeps a cell and a count in its place.
 #[derive(Clone, Copy, Drop)]
 pub struct Past {
     /// The last present value, nil before the first.

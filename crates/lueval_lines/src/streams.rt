@@ -10,8 +10,8 @@ use luflow::{Flat, Outputs, Status};
 use std::alloc::{AllocError, Global};
 use std::marker::Model;
 
-/// The streams of a program's main variables. A contract sees, for each main variable, the list of its statuses, one for
-/// each instant of the table.
+/// The streams of a program's main variables. A contract sees, for each main variable, the list of its
+/// statuses, one for each instant of the table.
 #[derive(Debug)]
 pub struct Streams {
     instants: u32,
@@ -59,8 +59,8 @@ impl Streams {
         self.columns[variable].as_slice()
     }
 
-    /// The main outputs of the program, by name, in order of declaration, each with its stream, of which none is copied. None exactly
-    /// where the program has no output.
+    /// The main outputs of the program, by name, in order of declaration, each with its stream, of which none
+    /// is copied. None exactly where the program has no output.
     ///
     /// # Errors
     ///
@@ -79,7 +79,8 @@ impl Streams {
         Ok(Outputs::new(outputs))
     }
 
-    /// All main variables of the program, by name, in order of declaration, each with its stream, of which none is copied.
+    /// All main variables of the program, by name, in order of declaration, each with its stream, of which
+    /// none is copied.
     ///
     /// # Errors
     ///

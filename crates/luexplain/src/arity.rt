@@ -19,7 +19,8 @@ enum Number<'a> {
     Sides(usize, usize),
 }
 
-/// What is wrong in an equation with how many there are: first in its calls, then in those inside an expression, then between its sides.
+/// What is wrong in an equation with how many there are: first in its calls, then in those inside an
+/// expression, then between its sides.
 fn wrong_in<'a>(spot: &Spot<'_, 'a>) -> Option<Number<'a>> {
     for e in spot.parts {
         if let Expr::Call(f, arguments) = *e {
@@ -54,7 +55,8 @@ fn wrong_in<'a>(spot: &Spot<'_, 'a>) -> Option<Number<'a>> {
     Some(Number::Sides(left, right))
 }
 
-/// The token of the first call with a wrong number of arguments, or else of that inside an expression with a wrong number of values.
+/// The token of the first call with a wrong number of arguments, or else of that inside an expression with a
+/// wrong number of values.
 pub(crate) fn arity_token(spot: &Spot) -> usize {
     let mut inside = 0_usize;
     for (i, e) in spot.parts.iter().enumerate() {
@@ -173,7 +175,8 @@ fn said_of_merge<'a>(
     }
 }
 
-/// `E19`: the first merge of an equation whose branches aren't the names of the enumeration that its variable is of.
+/// `E19`: the first merge of an equation whose branches aren't the names of the enumeration that its variable
+/// is of.
 pub(crate) fn bad_merge(alloc: Global, spot: &Spot) -> Result<Said, AllocError> {
     for e in spot.parts {
         if let Expr::Merge(x, patterns, _) = *e {

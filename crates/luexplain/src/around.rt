@@ -6,7 +6,8 @@ use crate::habits::{HABITS, Habit, Stand};
 use lusyn_grammar::{Fixed, Lexeme, Token, keyword};
 use std::str;
 
-/// What stands around the place where a text is refused. A statement is what stands from the last `;`, `let`, `tel` or `var` on.
+/// What stands around the place where a text is refused. A statement is what stands from the last `;`, `let`,
+/// `tel` or `var` on.
 #[derive(Clone, Copy)]
 pub(crate) struct Around<'t> {
     /// The text before the place, and from there on.
@@ -36,7 +37,8 @@ struct Shape {
     is_value: bool,
     /// A parenthesis is open.
     is_open: bool,
-    /// So is an `if` that has no `then`, or none that has no `else`, inside the last parenthesis that is open.
+    /// So is an `if` that has no `then`, or none that has no `else`, inside the last parenthesis that is
+    /// open.
     lacks_then: bool,
     lacks_else: bool,
 }

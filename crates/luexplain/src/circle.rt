@@ -2,8 +2,8 @@
 
 use std::alloc::{AllocError, Global};
 
-/// Notes for each vertex that one points to from where it was reached first, unless it is known already. Answers whether it points to the
-/// start.
+/// Notes for each vertex that one points to from where it was reached first, unless it is known already.
+/// Answers whether it points to the start.
 fn look_along(
     row: &[usize],
     from: usize,
@@ -47,8 +47,9 @@ fn way_to(
     Ok(way)
 }
 
-/// A shortest way of a graph from a vertex back to itself: the vertices from the start on, each pointing to the next, and the last to the
-/// first. Empty where there is none. The time grows with the number of vertices and edges.
+/// A shortest way of a graph from a vertex back to itself: the vertices from the start on, each pointing to
+/// the next, and the last to the first. Empty where there is none. The time grows with the number of vertices
+/// and edges.
 pub(crate) fn circle(
     alloc: Global,
     graph: &[Vec<usize>],

@@ -83,7 +83,8 @@ fn need_of<'a>(scope: &Scope, left: &'a [Name]) -> Option<Need<'a>> {
     Some(Need::Clock(left.first()?.as_str()))
 }
 
-/// What may have no value at first in an equation, and needs one: first in its right side, then what it defines.
+/// What may have no value at first in an equation, and needs one: first in its right side, then what it
+/// defines.
 fn gap_in<'a>(spot: &Spot<'_, 'a>, marks: &[bool]) -> Option<Gap<'a>> {
     for (i, e) in spot.parts.iter().enumerate() {
         if let Some(found) = gap_at(spot.scope, marks, *e) {
@@ -134,7 +135,8 @@ fn right_of<'a>(scope: &Scope<'a>, name: &str) -> Option<&'a Expr> {
     None
 }
 
-/// The `pre` that is at the bottom of it, through the variables in between; of many the first alone are followed.
+/// The `pre` that is at the bottom of it, through the variables in between; of many the first alone are
+/// followed.
 fn root_of<'a>(scope: &Scope<'a>, marks: &[bool], e: &'a Expr) -> &'a Expr {
     let mut at = e;
     for _ in 0..FOLLOWED {
@@ -233,7 +235,8 @@ fn is_begun(scope: &Scope, clock: &str, pattern: PatternRef) -> bool {
     }
 }
 
-/// What holds the variable of a `current`: the variable on the left, where the `current` is all of the right side, or else a new one.
+/// What holds the variable of a `current`: the variable on the left, where the `current` is all of the right
+/// side, or else a new one.
 fn target_of<'a>(spot: &Spot<'_, 'a>) -> &'a str {
     if let (Expr::Current(_), [x]) = (&spot.equation.right, spot.equation.left.as_slice()) {
         return x.as_str();

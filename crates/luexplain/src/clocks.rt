@@ -42,7 +42,8 @@ fn side_part<'a>(side: Side<'a>, clock: ClockRef<'a>) -> Part<'a> {
     }
 }
 
-/// The clock that an expression stands on, if it fits one; none where it may stand on any, or names no variable.
+/// The clock that an expression stands on, if it fits one; none where it may stand on any, or names no
+/// variable.
 fn clock_of<'a>(scope: &Scope<'a>, e: &'a Expr) -> Option<ClockRef<'a>> {
     match e {
         Expr::Number(_) | Expr::Truth(_) | Expr::Label(_) => None,
@@ -226,7 +227,8 @@ pub(crate) fn apart_token(spot: &Spot) -> usize {
     }
 }
 
-/// How two clocks are reported: of a variable and a right side that is on a clock, that the variable may be declared on it.
+/// How two clocks are reported: of a variable and a right side that is on a clock, that the variable may be
+/// declared on it.
 fn wording_of(found: &Apart) -> Wording {
     match (found.second, found.other) {
         (Side::Right, ClockRef::On(_, _)) => sentences::SIDES_ON_TWO_CLOCKS,
@@ -254,7 +256,8 @@ pub(crate) fn mismatch(alloc: Global, spot: &Spot) -> Result<Said, AllocError> {
     }
 }
 
-/// A variable that stands as a clock, of what type it is, and of what type it would have to be; none is a type that no clock has.
+/// A variable that stands as a clock, of what type it is, and of what type it would have to be; none is a
+/// type that no clock has.
 #[derive(Clone, Copy)]
 struct NoClock<'a> {
     variable: &'a str,
@@ -338,7 +341,8 @@ fn said_of_no_clock<'a>(
     )
 }
 
-/// The variables from one to its clock, and on to the clock of that; at most eight, and the first once more where it comes again.
+/// The variables from one to its clock, and on to the clock of that; at most eight, and the first once more
+/// where it comes again.
 fn chain_of<'a>(
     alloc: Global,
     scope: &Scope<'a>,

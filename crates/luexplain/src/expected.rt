@@ -1,5 +1,5 @@
-//! What could stand where a text is refused, by how far it has come: said where no habit of another dialect stands there. A hole is filled as in
-//! `habits`, with the token before what is refused.
+//! What could stand where a text is refused, by how far it has come: said where no habit of another dialect
+//! stands there. A hole is filled as in `habits`, with the token before what is refused.
 
 use lusyn_grammar::{Fixed, Lexeme, Token};
 
@@ -10,7 +10,8 @@ pub(crate) enum State {
     Top,
     /// In a type.
     Type,
-    /// In the head of a node, outside of the parentheses of its inputs and outputs, or behind those of its outputs.
+    /// In the head of a node, outside of the parentheses of its inputs and outputs, or behind those of its
+    /// outputs.
     Head,
     Body,
     /// In a declaration: of an input, an output, or a local.
@@ -57,7 +58,8 @@ pub(crate) fn expected(state: State) -> &'static str {
     }
 }
 
-/// Where the part of a text begins that the last of these tokens belongs to: at the last keyword that begins one.
+/// Where the part of a text begins that the last of these tokens belongs to: at the last keyword that begins
+/// one.
 pub(crate) fn part_start(tokens: &[Lexeme]) -> usize {
     let mut start = 0_usize;
     for (i, lexeme) in tokens.iter().enumerate() {
@@ -98,7 +100,8 @@ fn is_ended(tokens: &[Lexeme]) -> bool {
     }
 }
 
-/// How far a text has come outside of equations, by the tokens from the last keyword on that begins a part; nothing inside of them.
+/// How far a text has come outside of equations, by the tokens from the last keyword on that begins a part;
+/// nothing inside of them.
 pub(crate) fn state_outside(part: &[Lexeme]) -> Option<State> {
     let [first, ..] = part else {
         return Some(State::Top);

@@ -6,7 +6,8 @@ use lustat_rules::{Catalog, Scope};
 use lutree::{Declaration, DeclaredName, Equation, Expr, Node, Program, TypeDeclaration};
 use std::alloc::AllocError;
 
-/// A refused equation, with the program, its node, and the parts of its right side, each with its first token (see `tokens`).
+/// A refused equation, with the program, its node, and the parts of its right side, each with its first token
+/// (see `tokens`).
 #[derive(Clone, Copy)]
 pub(crate) struct Spot<'s, 'a> {
     pub(crate) catalog: &'s Catalog<'a>,
@@ -127,8 +128,8 @@ pub(crate) fn role_at(node: &Node, byte: usize) -> &'static str {
     sentences::LOCAL
 }
 
-/// The parts of an expression, itself among them, behind those before: as they begin in the text, but for what is sampled, which stands
-/// before the `when`.
+/// The parts of an expression, itself among them, behind those before: as they begin in the text, but for
+/// what is sampled, which stands before the `when`.
 pub(crate) fn push_parts<'e>(e: &'e Expr, parts: &mut Vec<&'e Expr>) -> Result<(), AllocError> {
     if let Expr::When(a, _) = e {
         push_parts(a, parts)?;

@@ -23,8 +23,8 @@ fn push_place(scope: &Scope, name: &str, row: &mut Vec<usize>) -> Result<(), All
     Ok(())
 }
 
-/// The places of the variables that an expression reads at the same instant, behind those before. What a call is given is among
-/// them where `through` says so.
+/// The places of the variables that an expression reads at the same instant, behind those before. What a call
+/// is given is among them where `through` says so.
 #[cycle(reads)]
 fn push_reads(
     scope: &Scope,
@@ -89,8 +89,9 @@ fn lead_to(
     Ok(())
 }
 
-/// What the variables of a node read at one instant: a vertex for each variable, which leads to the vertex of its equation and to the variable
-/// of its clock, and behind them one for each equation, which leads to the variables that it reads.
+/// What the variables of a node read at one instant: a vertex for each variable, which leads to the vertex of
+/// its equation and to the variable of its clock, and behind them one for each equation, which leads to the
+/// variables that it reads.
 fn graph_of(alloc: Global, scope: &Scope, through: bool) -> Result<Vec<Vec<usize>>, AllocError> {
     let mut graph = Vec::new(alloc);
     let declarations = scope.declarations();
@@ -114,8 +115,8 @@ fn graph_of(alloc: Global, scope: &Scope, through: bool) -> Result<Vec<Vec<usize
     Ok(graph)
 }
 
-/// The variables of a node in a circle from one back to it, each reading the next at one instant; none where no equation shows it. A way that
-/// goes through no call is preferred.
+/// The variables of a node in a circle from one back to it, each reading the next at one instant; none where
+/// no equation shows it. A way that goes through no call is preferred.
 fn circle_of<'a>(
     alloc: Global,
     scope: &Scope<'a>,
@@ -137,7 +138,8 @@ fn circle_of<'a>(
     Ok(names)
 }
 
-/// How a circle of these variables is reported, with the type of one of them; none where no equation shows it.
+/// How a circle of these variables is reported, with the type of one of them; none where no equation shows
+/// it.
 fn said_of_names<'a>(
     alloc: Global,
     program: &'a Program,
@@ -193,8 +195,9 @@ fn byte_of(program: &Program, main: &str, variable: &str) -> usize {
     0
 }
 
-/// What a user reads where a main variable depends on itself: its place, what is wrong, and how to mend it. `text` is the text of the file
-/// of this path, `program` is what it spells, and `main` the name of the main node.
+/// What a user reads where a main variable depends on itself: its place, what is wrong, and how to mend it.
+/// `text` is the text of the file of this path, `program` is what it spells, and `main` the name of the main
+/// node.
 ///
 /// # Errors
 ///
@@ -214,7 +217,8 @@ pub fn of_cycle(
     Ok(reported(where_in(alloc, path, text, byte)?, said))
 }
 
-/// What a user reads about a program with too many flows: the path of its file, what is wrong, and how to mend it.
+/// What a user reads about a program with too many flows: the path of its file, what is wrong, and how to
+/// mend it.
 ///
 /// # Errors
 ///
@@ -249,8 +253,9 @@ fn said_of_fault(
     )
 }
 
-/// What a user reads about a fault in the equation of a main variable at an instant: its place, what is wrong, and how to mend it. `text` is the
-/// text of the program's file, of this path, `program` is what it spells, and `main` the name of the main node.
+/// What a user reads about a fault in the equation of a main variable at an instant: its place, what is
+/// wrong, and how to mend it. `text` is the text of the program's file, of this path, `program` is what it
+/// spells, and `main` the name of the main node.
 ///
 /// # Errors
 ///

@@ -1,5 +1,6 @@
-//! What is said to those who come from another dialect (Lustre V4 or V6, SCADE, C), by the word or the sign that they write: how it is written here.
-//! The first line that fits is the one that is said. A hole is filled as in `sentences`, with the token before what is refused, and its line.
+//! What is said to those who come from another dialect (Lustre V4 or V6, SCADE, C), by the word or the sign
+//! that they write: how it is written here. The first line that fits is the one that is said. A hole is
+//! filled as in `sentences`, with the token before what is refused, and its line.
 
 /// Where a word or a sign of another dialect stands.
 #[derive(Clone, Copy)]

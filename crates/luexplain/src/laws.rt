@@ -7,7 +7,8 @@ pub fn place_vectors_law()
     ensures { PlaceVectors }
 {}
 
-/// Worked names: one letter more, less or another, two letters, names that are too far, and names that are too short.
+/// Worked names: one letter more, less or another, two letters, names that are too far, and names that are
+/// too short.
 pub fn near_vectors_law()
     ensures { NearVectors }
 {}

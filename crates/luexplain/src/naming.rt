@@ -72,7 +72,8 @@ pub(crate) fn duplicate(
     say(alloc, sentences::of_rule_alone(error), &[])
 }
 
-/// `E10` of a variable: its name stands before at another one of its node, or else as a name of an enumeration.
+/// `E10` of a variable: its name stands before at another one of its node, or else as a name of an
+/// enumeration.
 pub(crate) fn duplicate_variable(
     alloc: Global,
     text: &[u8],
@@ -326,7 +327,8 @@ pub(crate) fn call_token(spot: &Spot, node: Option<&str>) -> usize {
     0
 }
 
-/// The token of the first variable on the left of an equation that it may not define, by itself, or because an equation before it does.
+/// The token of the first variable on the left of an equation that it may not define, by itself, or because
+/// an equation before it does.
 pub(crate) fn defined_token(alloc: Global, spot: &Spot) -> Result<usize, AllocError> {
     let left = spot.equation.left.as_slice();
     let places = places_of(alloc, left)?;
@@ -444,8 +446,8 @@ fn places_of<'a>(alloc: Global, left: &'a [Name]) -> Result<Places<'a>, AllocErr
     Places::new(alloc, names)
 }
 
-/// `E16`, by the places of the names that the equation defines: the first variable that it may not define, by itself, or because an equation before
-/// it does.
+/// `E16`, by the places of the names that the equation defines: the first variable that it may not define, by
+/// itself, or because an equation before it does.
 fn said_of_defined(
     alloc: Global,
     text: &[u8],

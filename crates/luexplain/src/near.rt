@@ -77,8 +77,8 @@ fn is_two_apart(a: &[u8], b: &[u8]) -> bool
     2 < a.len() && 2 < b.len() && is_within_two(a, b)
 }
 
-/// How many letters two names are apart: 1, 2, or `FAR` where they are too many, or where a name has no more letters than that. The time grows
-/// with their length.
+/// How many letters two names are apart: 1, 2, or `FAR` where they are too many, or where a name has no more
+/// letters than that. The time grows with their length.
 fn letters_apart(a: &[u8], b: &[u8]) -> usize
     ensures { result ≡ spec.apart a.now b.now }
 {

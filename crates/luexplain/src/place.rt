@@ -215,9 +215,10 @@ fn parted(text: &[u8], byte: usize) -> (&[u8], &[u8])
     }
 }
 
-/// Where a byte stands in the file of this path and this text: `PATH:LINE:COLUMN`, both counted from 1, the line, and a caret under the
-/// byte, each ended by a line feed. Of a byte behind the end it is the end. Of a line of more than 100 bytes 100 are shown; a byte that isn't
-/// a tab, a blank or a visible letter is shown as `?`, and a tab is one column.
+/// Where a byte stands in the file of this path and this text: `PATH:LINE:COLUMN`, both counted from 1, the
+/// line, and a caret under the byte, each ended by a line feed. Of a byte behind the end it is the end. Of a
+/// line of more than 100 bytes 100 are shown; a byte that isn't a tab, a blank or a visible letter is shown
+/// as `?`, and a tab is one column.
 ///
 /// # Errors
 ///

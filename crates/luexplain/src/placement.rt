@@ -197,8 +197,9 @@ fn found_at(
     Ok(Found { byte: None, said })
 }
 
-/// What a user reads about a placement that is refused: its place, what is wrong, and how to mend it. `text` is the text of the file of this path,
-/// `program` is the program whose variables it places, and `main` the name of the main node.
+/// What a user reads about a placement that is refused: its place, what is wrong, and how to mend it. `text`
+/// is the text of the file of this path, `program` is the program whose variables it places, and `main` the
+/// name of the main node.
 ///
 /// # Errors
 ///

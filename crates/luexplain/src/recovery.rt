@@ -66,7 +66,8 @@ pub(crate) fn overwrite(text: &mut [u8], patch: Patch)
     }
 }
 
-/// Where some bytes end that stand from a byte on, their own among them; the text's end where they don't stand there.
+/// Where some bytes end that stand from a byte on, their own among them; the text's end where they don't
+/// stand there.
 fn behind(text: &[u8], from: usize, close: &str) -> usize {
     for (i, _) in text.iter().enumerate() {
         if from <= i && from_byte(text, i).starts_with(close.as_bytes()) {
@@ -118,7 +119,8 @@ fn sign_at(text: &[u8], byte: usize) -> Option<Patch> {
     Some(Patch { from, to, sign })
 }
 
-/// Whether a word begins or ends a part of a program, where it can't belong to what a statement is in this scope.
+/// Whether a word begins or ends a part of a program, where it can't belong to what a statement is in this
+/// scope.
 fn is_end_word(word: &[u8], scope: Scope) -> bool {
     match (scope, word) {
         (Scope::Top, b"node" | b"function" | b"type") => true,
@@ -144,7 +146,8 @@ fn is_closed_behind(text: &[u8], byte: usize) -> bool {
     length_before(line, b')') < line.len()
 }
 
-/// Where a statement ends that goes on at a byte, or where what can't belong to it begins. A `;` in parentheses that are closed in its line doesn't end it.
+/// Where a statement ends that goes on at a byte, or where what can't belong to it begins. A `;` in
+/// parentheses that are closed in its line doesn't end it.
 fn end_from(text: &[u8], byte: usize, scope: Scope) -> usize {
     let mut depth = 0_usize;
     let mut last = b' ';
@@ -197,7 +200,8 @@ fn missing_end(text: &[u8], byte: usize, around: &Around) -> Option<Patch> {
     })
 }
 
-/// Where the last `tel` behind a byte stands before what begins another node, a type or a constant; the byte where there is none.
+/// Where the last `tel` behind a byte stands before what begins another node, a type or a constant; the byte
+/// where there is none.
 fn last_end(text: &[u8], byte: usize) -> usize {
     let mut found = byte;
     let mut last = b' ';
@@ -291,7 +295,8 @@ fn of_top(text: &[u8], byte: usize, tokens: &[Lexeme], around: &Around) -> Patch
     Patch { from, to, sign }
 }
 
-/// What is overwritten where a text of these tokens is refused at a byte behind them, so that it is read on: nothing where that isn't known.
+/// What is overwritten where a text of these tokens is refused at a byte behind them, so that it is read on:
+/// nothing where that isn't known.
 pub(crate) fn patch_at(
     text: &[u8],
     byte: usize,

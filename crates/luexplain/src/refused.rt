@@ -1,4 +1,5 @@
-//! What is told of a text that is no program, beyond its first refusal: it is overwritten where it is refused, and judged anew.
+//! What is told of a text that is no program, beyond its first refusal: it is overwritten where it is
+//! refused, and judged anew.
 
 ghost use Rattle.std.specs.Prelude.{◌≡◌, ◌≢◌, ◌++◌, ◌⊎◌, [], ◌∷◌, false, length, nat_eq, IfOk, MatchOption};
 ghost use Rattle.std.specs.List.{list_any};
@@ -77,7 +78,8 @@ fn patch_for(alloc: Global, text: &[u8], error: &SynError) -> Result<Option<Patc
     }
 }
 
-/// Overwrites a text where it is refused, unless its file is none of a program. Answers whether it is to be judged anew.
+/// Overwrites a text where it is refused, unless its file is none of a program. Answers whether it is to be
+/// judged anew.
 fn read_on(
     alloc: Global,
     path: &str,
@@ -106,7 +108,8 @@ fn is_told(found: &[SyntaxRefusal], byte: usize) -> bool
     found.iter().any(|refusal| byte == refusal.byte)
 }
 
-/// Adds this refusal of a text as it is read, unless one at this place is told, and overwrites it there. Answers whether it is to be judged anew.
+/// Adds this refusal of a text as it is read, unless one at this place is told, and overwrites it there.
+/// Answers whether it is to be judged anew.
 fn push_refusal(
     found: &mut Vec<SyntaxRefusal>,
     alloc: Global,
@@ -176,9 +179,10 @@ fn read_through(alloc: Global, path: &str, text: &[u8]) -> Result<Vec<SyntaxRefu
     Ok(found)
 }
 
-/// All refusals that are told of a text, in the order of their bytes, no two at one: where it is refused, it is overwritten, by blanks or by a sign that is as good,
-/// and judged anew, as long as that gives refusals at other bytes, and at most 50 times. None where it is a program; the first alone of a file
-/// whose path ends as that of a table or a placement does. `text` is the text of the file of this path.
+/// All refusals that are told of a text, in the order of their bytes, no two at one: where it is refused, it
+/// is overwritten, by blanks or by a sign that is as good, and judged anew, as long as that gives refusals at
+/// other bytes, and at most 50 times. None where it is a program; the first alone of a file whose path ends
+/// as that of a table or a placement does. `text` is the text of the file of this path.
 ///
 /// # Errors
 ///

@@ -154,8 +154,8 @@ fn said_of_rule(
     Ok((said_outside(alloc, text, catalog, main, error)?, 0))
 }
 
-/// Where a rule is broken: at its byte, or, of an equation, at its token that is at fault; of the rule that there is a main node, and where memory
-/// ran out, in the whole.
+/// Where a rule is broken: at its byte, or, of an equation, at its token that is at fault; of the rule that
+/// there is a main node, and where memory ran out, in the whole.
 fn place_of_rule(
     alloc: Global,
     path: &str,
@@ -191,9 +191,10 @@ fn said_in(
     said_of_rule(alloc, text, &catalog, main, error)
 }
 
-/// What a user reads where the static checks refuse a program: its place, what is wrong, and how to mend it. The place is that of the error's
-/// byte, or, of a rule that an equation breaks, of the operand, the call or the use in it that is at fault. `text` is the text of the file
-/// of this path, `program` is what it spells, and `main` the name of the main node.
+/// What a user reads where the static checks refuse a program: its place, what is wrong, and how to mend it.
+/// The place is that of the error's byte, or, of a rule that an equation breaks, of the operand, the call or
+/// the use in it that is at fault. `text` is the text of the file of this path, `program` is what it spells,
+/// and `main` the name of the main node.
 ///
 /// # Errors
 ///

@@ -20,7 +20,8 @@ pub(crate) struct Said {
 /// What a user reads of a refusal.
 #[derive(Drop)]
 pub struct Explanation {
-    /// Where it stands: `PATH:LINE:COLUMN` on a line, and below it the line of the text with a caret; of the whole text a line with its path.
+    /// Where it stands: `PATH:LINE:COLUMN` on a line, and below it the line of the text with a caret; of the
+    /// whole text a line with its path.
     pub place: String,
     /// What is wrong, in a sentence.
     pub what: String,

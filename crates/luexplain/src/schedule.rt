@@ -50,8 +50,8 @@ fn place_of_schedule(
     }
 }
 
-/// What a user reads about a schedule that is refused: its place, what is wrong, and how to mend it. `text` is the text of the file of this
-/// path.
+/// What a user reads about a schedule that is refused: its place, what is wrong, and how to mend it. `text`
+/// is the text of the file of this path.
 ///
 /// # Errors
 ///

@@ -1,5 +1,6 @@
-//! What is said of each refusal and of each fault, by its code: what is wrong, in a sentence, and how to mend it, in another. Each `@` is a hole for
-//! a part; the parts fill the holes in turn, first those of `what`, then those of `mend`, and a hole without a part stays empty.
+//! What is said of each refusal and of each fault, by its code: what is wrong, in a sentence, and how to mend
+//! it, in another. Each `@` is a hole for a part; the parts fill the holes in turn, first those of `what`,
+//! then those of `mend`, and a hole without a part stays empty.
 //!
 //! A wording with the name of an error is what is said by the rule alone, where nothing more is known.
 
@@ -13,7 +14,8 @@ pub(crate) struct Wording {
     pub(crate) mend: &'static str,
 }
 
-// E01 Syntax; what is said of words and signs of other dialects stands in `habits`, and what could stand there in `expected`
+/// E01 Syntax; what is said of words and signs of other dialects stands in `habits`, and what could stand
+/// there in `expected`
 pub(crate) const TEXT_ENDS: Wording = Wording {
     what: "The text ends here, before the program does.",
     mend: "Each node ends with `tel`, and each equation and declaration with `;`.",
@@ -26,13 +28,13 @@ pub(crate) const NO_TOKEN: Wording = Wording {
     mend: "Leave it out; a comment begins with `--`.",
 };
 
-// E02 NumberTooLarge
+/// E02 NumberTooLarge
 pub(crate) const LARGE_NUMBER: Wording = Wording {
     what: "The number @ is above 9223372036854775807, the greatest `int`.",
     mend: "Choose a coarser unit, here and in the table.",
 };
 
-// E03 NotAscii
+/// E03 NotAscii
 pub(crate) const MARKED_PROGRAM: Wording = Wording {
     what: "The program begins with a byte order mark, the bytes EF BB BF.",
     mend: "Save it as UTF-8 without a byte order mark, or cut the mark off: `tail -c +4 old.lus > new.lus`.",
@@ -43,7 +45,7 @@ pub(crate) const WIDE_BYTE: Wording = Wording {
     mend: "Write it in ASCII letters.",
 };
 
-// E04 TooLong
+/// E04 TooLong
 pub(crate) const LONG_PROGRAM: Wording = Wording {
     what: "The text has @ bytes, and a program has at most @.",
     mend: "Leave out what says nothing, and nodes that nothing calls.",
@@ -54,13 +56,13 @@ pub(crate) const MANY_ITEMS: Wording = Wording {
     mend: "Leave out nodes that nothing calls, and split large types.",
 };
 
-// E05 LongRun
+/// E05 LongRun
 pub(crate) const LONG_RUN: Wording = Wording {
     what: "1,000 names, numbers and signs stand before this one without a `;`.",
     mend: "Cut the expression, and give its parts to locals.",
 };
 
-// E10 DuplicateName
+/// E10 DuplicateName
 const OWN_NAMES: &str = "Give each its own name.";
 
 pub(crate) const DUPLICATE_NAME: Wording = Wording {
@@ -73,7 +75,7 @@ pub(crate) const NAME_TAKEN: Wording = Wording {
     mend: OWN_NAMES,
 };
 
-// E11 UnknownName
+/// E11 UnknownName
 pub(crate) const UNKNOWN_NAME: Wording = Wording {
     what: "A name here isn't known.",
     mend: "Spell it as it is declared, or declare it.",
@@ -109,7 +111,7 @@ pub(crate) const NO_TYPE: Wording = Wording {
     mend: "@The types are `int`, `bool` and those that the program declares.",
 };
 
-// E12 UnknownNode
+/// E12 UnknownNode
 const CALL_A_NODE: &str =
     "@Call a node of the program by its name, or write the node; none is built in.";
 
@@ -133,7 +135,7 @@ pub(crate) const VARIABLE_NO_NODE: Wording = Wording {
     mend: "A name with parentheses after it is a call: leave them out, or put an operator or a `;` before them.",
 };
 
-// E13 TypeMismatch
+/// E13 TypeMismatch
 pub(crate) const TYPE_MISMATCH: Wording = Wording {
     what: "The types don't agree.",
     mend: "Give both sides one type.",
@@ -156,7 +158,7 @@ pub(crate) const INT_FOR_BOOL: Wording = Wording {
     mend: "Give both one type; `x <> 0` makes a `bool` of an `int`.",
 };
 
-// E14 WrongArity
+/// E14 WrongArity
 pub(crate) const WRONG_ARITY: Wording = Wording {
     what: "A call has too many or too few arguments, or an equation too many or too few variables.",
     mend: "Give each call as many arguments as its node has inputs, and each value a variable.",
@@ -177,7 +179,7 @@ pub(crate) const SIDES: Wording = Wording {
     mend: "Write as many variables on the left as the right side has values.",
 };
 
-// E15 Undefined
+/// E15 Undefined
 pub(crate) const UNDEFINED: Wording = Wording {
     what: "A variable has no equation.",
     mend: "Write its equation.",
@@ -188,7 +190,7 @@ pub(crate) const NO_EQUATION: Wording = Wording {
     mend: "Write the equation, or remove the declaration; what comes from outside is an input.",
 };
 
-// E16 DefinedTwice
+/// E16 DefinedTwice
 pub(crate) const DEFINED_TWICE: Wording = Wording {
     what: "A variable has a second equation, or an input has one.",
     mend: "Write one equation for each variable, and none for an input.",
@@ -209,7 +211,7 @@ pub(crate) const DEFINED_BEFORE: Wording = Wording {
     mend: "Write one equation for it: an equation holds at every instant, and is no assignment.",
 };
 
-// E17 RecursiveNode
+/// E17 RecursiveNode
 const STEP_BY_STEP: &str =
     "Keep a value from instant to instant with `pre`, or write a node for each level of calls.";
 
@@ -223,7 +225,7 @@ pub(crate) const CIRCLE_OF_CALLS: Wording = Wording {
     mend: STEP_BY_STEP,
 };
 
-// E18 NoMain
+/// E18 NoMain
 const NAME_THE_MAIN: &str = "@Name the main node with `--main`, or rename it.";
 
 pub(crate) const NO_MAIN: Wording = Wording {
@@ -241,7 +243,7 @@ pub(crate) const NO_NODES: Wording = Wording {
     mend: NAME_THE_MAIN,
 };
 
-// E19 BadMerge
+/// E19 BadMerge
 pub(crate) const BAD_MERGE: Wording = Wording {
     what: "The branches of a merge on a `bool` are `true` and `false`, in this order.",
     mend: "Write a branch for each of the two.",
@@ -259,7 +261,7 @@ pub(crate) const OTHER_BRANCHES: Wording = Wording {
     mend: BRANCH_FOR_EACH,
 };
 
-// E20 ClockMismatch
+/// E20 ClockMismatch
 const ONE_CLOCK: &str =
     "Bring both to one clock: sample the faster by `when`, hold the slower by `current`, or join them by `merge`.";
 
@@ -285,7 +287,7 @@ pub(crate) const NOTHING_HELD: Wording = Wording {
     mend: "Leave out the `current`, or declare the variable on a clock, as `v: int when c`.",
 };
 
-// E21 NotAClock
+/// E21 NotAClock
 pub(crate) const NOT_A_CLOCK: Wording = Wording {
     what: "A variable is used as a clock, and is none.",
     mend: "Name a `bool`, or a variable of an enumeration with one of its names.",
@@ -301,7 +303,7 @@ pub(crate) const ENDLESS_CLOCKS: Wording = Wording {
     mend: "Declare one of them without a clock.",
 };
 
-// E22 ClockedParameter
+/// E22 ClockedParameter
 const CALL_ON_BASE: &str = "Call a node whose outputs are all on the base clock.";
 
 pub(crate) const CLOCKED_PARAMETER: Wording = Wording {
@@ -319,7 +321,7 @@ pub(crate) const CLOCKED_DECLARATION: Wording = Wording {
     mend: "Declare it without a clock, and sample it inside by `when`; a node whose arguments are sampled runs on their clock as a whole.",
 };
 
-// E23 HiddenClock
+/// E23 HiddenClock
 pub(crate) const HIDDEN_CLOCK: Wording = Wording {
     what: "An output is on a clock that a local names.",
     mend: "Make the local an output too.",
@@ -330,7 +332,7 @@ pub(crate) const LOCAL_CLOCK: Wording = Wording {
     mend: "Make @ an output too.",
 };
 
-// E30 MaybeNil
+/// E30 MaybeNil
 const FIRST_VALUE: &str = "Say what holds at the first instant: `@ -> pre x`, or `@ fby x`.";
 
 pub(crate) const MAYBE_NIL: Wording = Wording {
@@ -343,7 +345,7 @@ pub(crate) const NEEDED_VALUE: Wording = Wording {
     mend: FIRST_VALUE,
 };
 
-// E31 CurrentMayBeNil
+/// E31 CurrentMayBeNil
 pub(crate) const CURRENT_MAY_BE_NIL: Wording = Wording {
     what: "A `current` holds a variable whose clock may be false at first.",
     mend: "Hold it by a merge with a value to start with, or put it on a clock whose equation begins with `true ->`.",
@@ -359,7 +361,7 @@ pub(crate) const CLOCK_WITHOUT_START: Wording = Wording {
     mend: "Hold it with a value to start with: `@`@. Or, where a first sample is meant, begin the equation of the clock so: `@ = @ -> ..`.",
 };
 
-// E40 Cycle
+/// E40 Cycle
 const BREAK_THE_CIRCLE: &str =
     "Put a `pre` into the circle, with a value for the first instant, as `@ -> pre x`.";
 
@@ -373,13 +375,13 @@ pub(crate) const CIRCLE_BY_CALLS: Wording = Wording {
     mend: "Put a `pre` into the circle, with a value for the first instant, as `0 -> pre x`.",
 };
 
-// E50 TooLarge
+/// E50 TooLarge
 pub(crate) const MANY_FLOWS: Wording = Wording {
     what: "With all calls put in place, the main node has more than 4,096 flows.",
     mend: "Call less often, or give a result to a local in place of a second call.",
 };
 
-// P01 NotToml
+/// P01 NotToml
 const FORM_OF_TOML: &str =
     "Names of sites stand in quotes, arrays in brackets, and each key stands once, in a line of its own.";
 
@@ -393,7 +395,7 @@ pub(crate) const NOT_TOML_FROM_HERE: Wording = Wording {
     mend: FORM_OF_TOML,
 };
 
-// P02 BadKey
+/// P02 BadKey
 pub(crate) const BAD_KEY: Wording = Wording {
     what: "A key isn't one of a placement, `sites` is missing, or a value is of the wrong kind.",
     mend: "The keys are `version`, `sites`, `capacity`, `default` and the table `place`; a name of a site has letters, digits and `_`, and is in quotes.",
@@ -460,7 +462,7 @@ pub(crate) const BAD_SITE_NAME: Wording = Wording {
     mend: "A name of a site has letters, digits and `_`, at most 32 in all, and doesn't begin with a digit.",
 };
 
-// P03 UnknownSite
+/// P03 UnknownSite
 const AS_IN_SITES: &str = "@Spell it as in `sites`, or add it there.";
 
 pub(crate) const UNKNOWN_SITE: Wording = Wording {
@@ -473,7 +475,7 @@ pub(crate) const NO_SITE: Wording = Wording {
     mend: AS_IN_SITES,
 };
 
-// P04 UnknownVariable
+/// P04 UnknownVariable
 const NAME_A_VARIABLE: &str =
     "@Name a variable of the main node; one of a called node stands where the call does.";
 
@@ -487,7 +489,7 @@ pub(crate) const NO_VARIABLE_OF_MAIN: Wording = Wording {
     mend: NAME_A_VARIABLE,
 };
 
-// P05 Unplaced
+/// P05 Unplaced
 const ENTRY_OR_DEFAULT: &str = "Add an entry to `place`, or a `default`.";
 
 pub(crate) const UNPLACED: Wording = Wording {
@@ -500,7 +502,7 @@ pub(crate) const NO_ENTRY: Wording = Wording {
     mend: ENTRY_OR_DEFAULT,
 };
 
-// P06 DuplicateSite
+/// P06 DuplicateSite
 const EACH_ONCE: &str = "Name each site once.";
 
 pub(crate) const DUPLICATE_SITE: Wording = Wording {
@@ -518,7 +520,7 @@ pub(crate) const TWICE_IN_ENTRY: Wording = Wording {
     mend: EACH_ONCE,
 };
 
-// P07 OutOfRange
+/// P07 OutOfRange
 pub(crate) const OUT_OF_RANGE: Wording = Wording {
     what: "The capacity isn't from 1 to 1,024, the version isn't 1 or 2, there aren't from 1 to 16 sites, or the text is too long.",
     mend: "Keep to these ranges.",
@@ -544,7 +546,7 @@ pub(crate) const LONG_PLACEMENT: Wording = Wording {
     mend: "Leave out comments, and entries that say what `default` says.",
 };
 
-// P08 SplitCall
+/// P08 SplitCall
 const PLACE_TOGETHER: &str =
     "Place them together; a further variable with an equation `c = b` can stand elsewhere.";
 
@@ -558,7 +560,7 @@ pub(crate) const APART: Wording = Wording {
     mend: PLACE_TOGETHER,
 };
 
-// F01 CannotRead
+/// F01 CannotRead
 pub(crate) const NO_FILE: Wording = Wording {
     what: "There is no such file.",
     mend: "Look at its path: it begins at the folder in which the command is called.",
@@ -585,19 +587,19 @@ pub(crate) const OTHER_FILE: Wording = Wording {
     mend: "The files come in this order, as far as the command takes them: PROGRAM, PLACE, TABLE, SCHEDULE.",
 };
 
-// S01 BadSchedule
+/// S01 BadSchedule
 pub(crate) const NO_TURN: Wording = Wording {
     what: "@ is no turn, no space and no line feed.",
     mend: "Write a letter for each turn, `0` to `9` and `a` to `f` for the sites 0 to 15, and between them spaces and line feeds alone.",
 };
 
-// S02 LongSchedule
+/// S02 LongSchedule
 pub(crate) const LONG_SCHEDULE: Wording = Wording {
     what: "The schedule has @ bytes, and may have @.",
     mend: "Write the turns that matter, and let `--finish` take the others.",
 };
 
-// R1 Fault
+/// R1 Fault
 pub(crate) const OVERFLOW: Wording = Wording {
     what: "The equation of @ has no value at instant @, which is line @ of the table: a result doesn't fit into 64 bits.",
     mend: "Bound the operands before the operator.",
@@ -608,7 +610,7 @@ pub(crate) const DIV_ZERO: Wording = Wording {
     mend: "Divide by `if x = 0 then 1 else x`, or keep the division away by a clock; an `if` computes both branches.",
 };
 
-// R2 OutOfMemory
+/// R2 OutOfMemory
 pub(crate) const OUT_OF_MEMORY: Wording = Wording {
     what: "Memory ran out, which says nothing of the text.",
     mend: "Take a machine with more memory, or a shorter text.",
@@ -616,7 +618,7 @@ pub(crate) const OUT_OF_MEMORY: Wording = Wording {
 
 // WORDS FOR HOLES
 
-// A name that is declared, by what bears it.
+/// A name that is declared, by what bears it.
 pub(crate) const NAME_OF_NODE: &str = "The name of the node @";
 
 pub(crate) const NAME_OF_TYPE: &str = "The name of the type @";
@@ -625,7 +627,7 @@ pub(crate) const NAME_OF_LABEL: &str = "The name @ of an enumeration";
 
 pub(crate) const NAME_OF_VARIABLE: &str = "The name of the variable @";
 
-// What variables are, and what is counted of them.
+/// What variables are, and what is counted of them.
 pub(crate) const VARIABLE: &str = "variable";
 
 pub(crate) const INPUT: &str = "input";
@@ -634,19 +636,19 @@ pub(crate) const OUTPUT: &str = "output";
 
 pub(crate) const LOCAL: &str = "local";
 
-// What is counted, besides variables and inputs.
+/// What is counted, besides variables and inputs.
 pub(crate) const ARGUMENT: &str = "argument";
 
 pub(crate) const VALUE: &str = "value";
 
 pub(crate) const SITE: &str = "site";
 
-// What one does to the next in a circle.
+/// What one does to the next in a circle.
 pub(crate) const CALLS: &str = "calls";
 
 pub(crate) const READS: &str = "reads";
 
-// What is of a type, or on a clock.
+/// What is of a type, or on a clock.
 pub(crate) const OPERAND: &str = "an operand of @";
 
 pub(crate) const CONDITION: &str = "the condition of an `if`";
@@ -657,12 +659,12 @@ pub(crate) const OUTPUT_OF: &str = "the output @ of node @";
 
 pub(crate) const RIGHT_SIDE: &str = "the right side";
 
-// What a variable is held by that isn't alone on the left.
+/// What a variable is held by that isn't alone on the left.
 pub(crate) const HELD: [&str; 3] = ["held", "kept", "last"];
 
 pub(crate) const BY_HELD: &str = ", with @ in place of the `current`";
 
-// What needs a value at the first instant.
+/// What needs a value at the first instant.
 pub(crate) const NEEDED_OUTPUT: &str = "the output @";
 
 pub(crate) const NAMED_AS_CLOCK: &str = "@, which is named as a clock,";
@@ -677,7 +679,7 @@ pub(crate) const BRANCH_OF: &str = "a branch of the merge on @";
 
 pub(crate) const HELD_BY_CURRENT: &str = "@, which a `current` holds,";
 
-// A name that is spelled nearly so, before what else mends it.
+/// A name that is spelled nearly so, before what else mends it.
 pub(crate) const NEAR: &str = "Did you mean @? ";
 
 // THE RULES ALONE
@@ -730,7 +732,7 @@ pub(crate) fn of_value(key: &str) -> Wording {
     }
 }
 
-// W01 UnusedNode to W04 DividingBranch
+/// W01 UnusedNode to W04 DividingBranch
 pub(crate) const UNUSED_NODE: Wording = Wording {
     what: "No equation calls the node @.",
     mend: "",

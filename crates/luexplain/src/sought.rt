@@ -1,4 +1,5 @@
-//! Where a key or a name in quotes stands in the text of a placement. Comments are passed over, and what stands in quotes is one piece.
+//! Where a key or a name in quotes stands in the text of a placement. Comments are passed over, and what
+//! stands in quotes is one piece.
 
 use crate::bytes::{from_byte, length_before};
 

@@ -59,7 +59,8 @@ pub(crate) fn tokens_before(
     }
 }
 
-/// What is said of a token with which no program goes on: a habit of another dialect, or else what could stand here.
+/// What is said of a token with which no program goes on: a habit of another dialect, or else what could
+/// stand here.
 fn said_of_token(alloc: Global, text: &[u8], around: &Around) -> Result<Said, AllocError> {
     let usual = match around.token {
         [first, ..] if is_sign(*first) => Wording {
@@ -129,8 +130,8 @@ fn said_of_syntax(
     }
 }
 
-/// Where a text is no program: at the byte that is reported, or at the first above 127; where it is too long, and where memory ran out, in
-/// the whole.
+/// Where a text is no program: at the byte that is reported, or at the first above 127; where it is too long,
+/// and where memory ran out, in the whole.
 fn place_of_syntax(
     alloc: Global,
     path: &str,
@@ -166,7 +167,8 @@ pub(crate) fn of_syntax_as(
     Ok(reported(place_of_syntax(alloc, path, text, error)?, said))
 }
 
-/// What a user reads about a text that is no program: its place, what is wrong, and how to mend it. `text` is the text of the file of this path.
+/// What a user reads about a text that is no program: its place, what is wrong, and how to mend it. `text` is
+/// the text of the file of this path.
 ///
 /// # Errors
 ///

@@ -136,8 +136,9 @@ fn found_in(
     Ok(Found { byte: None, said })
 }
 
-/// What a user reads about a table that is refused: its place, what is wrong, and how to mend it. `text` is the text of the file of this path,
-/// `program` is the program whose inputs it has, and `main` the name of the main node.
+/// What a user reads about a table that is refused: its place, what is wrong, and how to mend it. `text` is
+/// the text of the file of this path, `program` is the program whose inputs it has, and `main` the name of
+/// the main node.
 ///
 /// # Errors
 ///

@@ -1,4 +1,5 @@
-//! What is said of tables, by the code of the refusal, as in `sentences`; and of bytes that no table has, by the byte.
+//! What is said of tables, by the code of the refusal, as in `sentences`; and of bytes that no table has, by
+//! the byte.
 
 use crate::sentences::Wording;
 
@@ -6,7 +7,7 @@ use crate::sentences::Wording;
 #[derive(Clone, Copy)]
 pub(crate) struct Sign(pub(crate) u8, pub(crate) Wording);
 
-// T01 BadHeader
+/// T01 BadHeader
 pub(crate) const MARKED: Wording = Wording {
     what: "The table begins with a byte order mark, the bytes EF BB BF.",
     mend: "Save it as UTF-8 without a byte order mark, or cut the mark off: `tail -c +4 old.csv > new.csv`.",
@@ -76,7 +77,7 @@ pub(crate) const OTHER_ORDER: Wording = Wording {
     mend: "Write them in the order of declaration: @.",
 };
 
-// T02 BadRow
+/// T02 BadRow
 pub(crate) const UNENDED_LINE: Wording = Wording {
     what: "The last line has no line feed at its end.",
     mend: END_LINES,
@@ -99,7 +100,7 @@ pub(crate) const FIELD_COUNT: Wording = Wording {
     mend: A_VALUE_FOR_EACH,
 };
 
-// T03 BadValue
+/// T03 BadValue
 pub(crate) const BAD_VALUE: Wording = Wording {
     what: "A field of this line is no value of its type.",
     mend: "Write a value of the type of its input.",
@@ -147,7 +148,7 @@ pub(crate) const NO_LABEL_OF_TYPE: Wording = Wording {
     mend: "@Write one of @.",
 };
 
-// T04 TooLong
+/// T04 TooLong
 pub(crate) const LONG_TABLE: Wording = Wording {
     what: "The table has @ bytes and @; it may have @ bytes, and a header and 1000000 lines.",
     mend: "Try the program on a part of the table.",
@@ -210,7 +211,7 @@ pub(crate) const JOINED: &[Sign] = &[Sign(b';', SEMICOLON), Sign(b'"', QUOTE), S
 
 // WORDS FOR HOLES
 
-// What is counted.
+/// What is counted.
 pub(crate) const FIELD: &str = "field";
 
 pub(crate) const COLUMN: &str = "column";

@@ -1,4 +1,5 @@
-//! Where the parts of an equation stand among its tokens. Parentheses, which the tree doesn't keep, aren't counted.
+//! Where the parts of an equation stand among its tokens. Parentheses, which the tree doesn't keep, aren't
+//! counted.
 
 ghost use Rattle.std.specs.Prelude.{◌≡◌, ◌≤◌, length, drop};
 ghost use Rattle.std.specs.List.{prefix_len};
@@ -52,7 +53,8 @@ pub(crate) fn tokens_of(e: &Expr) -> usize {
     }
 }
 
-/// The first token of the expression of this number among several, each behind so many tokens, and with so many between two.
+/// The first token of the expression of this number among several, each behind so many tokens, and with so
+/// many between two.
 fn start_among(all: &[Expr], number: usize, first: usize, between: usize) -> usize {
     let mut at = first;
     for (i, e) in all.iter().enumerate() {
@@ -64,7 +66,8 @@ fn start_among(all: &[Expr], number: usize, first: usize, between: usize) -> usi
     at
 }
 
-/// The first token of an operand, a branch or an argument, counted from 0 on; of the variable of a clock, which is the second, behind what is sampled.
+/// The first token of an operand, a branch or an argument, counted from 0 on; of the variable of a clock,
+/// which is the second, behind what is sampled.
 pub(crate) fn operand_start(e: &Expr, start: usize, number: usize) -> usize {
     match (e, number) {
         (Expr::Unary(_, _), _) => start.saturating_add(1),
@@ -93,7 +96,8 @@ pub(crate) fn right_start(left: &[Name]) -> usize {
     left.len().saturating_mul(2)
 }
 
-/// The first tokens of the parts of an expression that begins at a token, in the order of `push_parts`, behind those before.
+/// The first tokens of the parts of an expression that begins at a token, in the order of `push_parts`,
+/// behind those before.
 pub(crate) fn push_starts(
     e: &Expr,
     start: usize,
@@ -167,7 +171,8 @@ fn equation_from(text: &[u8], byte: usize) -> &[u8]
     &behind[..length_of_equation(behind)]
 }
 
-/// The byte of the token of this number of the equation that begins at a byte; the equation's own where that isn't found before the next `;`.
+/// The byte of the token of this number of the equation that begins at a byte; the equation's own where that
+/// isn't found before the next `;`.
 pub(crate) fn byte_of_token(alloc: Global, text: &[u8], byte: usize, number: usize) -> usize
     ensures { IsInEquation text.now byte result }
 {

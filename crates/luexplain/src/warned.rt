@@ -88,8 +88,8 @@ fn warning_at(warnings: &[Warning], j: usize) -> &Warning
     &warnings[j]
 }
 
-/// What a user reads of warnings, a line each: where it stands, and what it says. `text` is the text of the program's file, of this path, and
-/// `program` is what it spells.
+/// What a user reads of warnings, a line each: where it stands, and what it says. `text` is the text of the
+/// program's file, of this path, and `program` is what it spells.
 ///
 /// # Errors
 ///

@@ -63,7 +63,8 @@ pub(crate) enum Part<'a> {
     Nodes(&'a [Node]),
     /// The same of the names of variables.
     Variables(&'a [Declaration]),
-    /// Names in a circle, and what each does to the next: `a` calls `b`, which calls `c`, which calls `a`. Of many the first alone.
+    /// Names in a circle, and what each does to the next: `a` calls `b`, which calls `c`, which calls `a`. Of
+    /// many the first alone.
     Circle(&'a [&'a str], &'a str),
 }
 

@@ -12,8 +12,8 @@ use crate::variable::{Enum, Variable, inputs_among, names_of};
 use lubase::{Name, Row};
 use std::marker::Model;
 
-/// A flat program: the flows that remain of a checked program when all calls are inlined, the main variables first. It
-/// is sound and in order of rank. A contract sees the `FlatView` of `specs/Program.antt`.
+/// A flat program: the flows that remain of a checked program when all calls are inlined, the main variables
+/// first. It is sound and in order of rank. A contract sees the `FlatView` of `specs/Program.antt`.
 pub struct Flat {
     types: Row<Enum>,
     flows: Row<Flow>,
@@ -60,8 +60,8 @@ impl Model for Flat {
 }
 
 impl Flat {
-    /// The flat program of these types and flows, given the flows' order of rank, the main variable in whose equation each
-    /// stands, and the main variables.
+    /// The flat program of these types and flows, given the flows' order of rank, the main variable in whose
+    /// equation each stands, and the main variables.
     pub fn new(
         types: Row<Enum>,
         flows: Row<Flow>,
@@ -102,15 +102,16 @@ impl Flat {
         let _ = &self.types;
     }
 
-    /// The types of the source program, in order of declaration; the kind of an enumeration holds its place here. Takes no
-    /// memory.
+    /// The types of the source program, in order of declaration; the kind of an enumeration holds its place
+    /// here. Takes no memory.
     pub fn types(&self) -> &[Enum]
         ensures { result.now ≡ self.now.types }
     {
         self.types.as_slice()
     }
 
-    /// The names of the type of a main variable, in order of declaration; none where it is no enumeration. Takes no memory.
+    /// The names of the type of a main variable, in order of declaration; none where it is no enumeration.
+    /// Takes no memory.
     pub fn variable_names(&self, variable: usize) -> &[Name]
         ensures { result.now ≡ variable_names self.now variable }
     {
@@ -148,7 +149,8 @@ impl Flat {
         self.flows.as_slice()
     }
 
-    /// The places of all flows in order of rank: what a flow reads at the same instant comes before it. Takes no memory.
+    /// The places of all flows in order of rank: what a flow reads at the same instant comes before it. Takes
+    /// no memory.
     pub fn rank(&self) -> &[usize]
         ensures { result.now ≡ self.now.order }
     {
@@ -178,16 +180,16 @@ impl Flat {
         self.owners.as_slice()
     }
 
-    /// The main variables: inputs, outputs and locals, each in order of declaration. Variable number v is the flow of
-    /// place v. Takes no memory.
+    /// The main variables: inputs, outputs and locals, each in order of declaration. Variable number v is the
+    /// flow of place v. Takes no memory.
     pub fn variables(&self) -> &[Variable]
         ensures { result.now ≡ self.now.variables }
     {
         self.variables.as_slice()
     }
 
-    /// The inputs among the main variables, in order of declaration: the first ones. Takes no memory; the time grows with the
-    /// number of main variables.
+    /// The inputs among the main variables, in order of declaration: the first ones. Takes no memory; the
+    /// time grows with the number of main variables.
     pub fn inputs(&self) -> &[Variable]
         ensures inputs { result.now ≡ inputs_of self.now.variables }
         ensures flat { IsFlat self.now }

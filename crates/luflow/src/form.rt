@@ -38,7 +38,8 @@ pub enum Form {
     When(usize),
     /// `current`
     Current(usize),
-    /// `merge`, with its clock variable and its branches: one for each value of that variable's type, in their order.
+    /// `merge`, with its clock variable and its branches: one for each value of that variable's type, in
+    /// their order.
     Merge(usize, Row<usize>),
 }
 
@@ -158,8 +159,8 @@ impl fmt::Display for FaultKind {
     }
 }
 
-/// What a flow's value is where its clock is true: a datum, a fault of its own operator, or neither, where an operand
-/// gives none.
+/// What a flow's value is where its clock is true: a datum, a fault of its own operator, or neither, where an
+/// operand gives none.
 #[derive(Clone, Copy, Drop, PartialEq, Eq)]
 pub enum Outcome {
     Gives(Datum),

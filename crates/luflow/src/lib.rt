@@ -1,14 +1,15 @@
 //! Flat programs: their flows, what these carry, and what their solution is.
 //!
 //! - [`Datum`], [`Status`]: what a flow has at an instant.
-//! - [`Form`], [`Flow`], [`Clock`]: what a flow is made of; [`Outcome`], [`FaultKind`]: what its value may be.
-//! - [`Flat`], [`Variable`], [`Enum`], [`names_of`], [`name_of`]: a whole flat program, and how its names are spelled; [`Inputs`]: the table of its
-//!   inputs, each input's [`Values`]; [`Outputs`]: that of its outputs.
+//! - [`Form`], [`Flow`], [`Clock`]: what a flow is made of; [`Outcome`], [`FaultKind`]: what its value may
+//!   be.
+//! - [`Flat`], [`Variable`], [`Enum`], [`names_of`], [`name_of`]: a whole flat program, and how its names are
+//!   spelled; [`Inputs`]: the table of its inputs, each input's [`Values`]; [`Outputs`]: that of its outputs.
 //! - [`Msg`], [`Body`]: what a link carries.
 //! - [`laws`]: exactly one solution, what every solution keeps, and worked programs.
 //!
-//! The definitions stand in `specs/`: `Program`, `Rank`, `Streams`, `Operators`, `Values`, `Solution`, `Faults`, `Sound`,
-//! `Messages`, `Types`; worked programs in `Vectors`.
+//! The definitions stand in `specs/`: `Program`, `Rank`, `Streams`, `Operators`, `Values`, `Solution`,
+//! `Faults`, `Sound`, `Messages`, `Types`; worked programs in `Vectors`.
 #![tactic(auto)]
 
 mod data;

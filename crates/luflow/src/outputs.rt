@@ -6,9 +6,9 @@ ghost use Rattle.luflow.specs.Tables.{AreOutputs, outputs_view};
 use crate::data::Status;
 use std::marker::Model;
 
-/// What the outputs of the main node have at each instant: for each output, in order of declaration, a name and a status for
-/// each instant. There is one output at least, and all have the same number of instants. A contract sees the list of
-/// `OutputColumn` of `specs/Tables.antt`.
+/// What the outputs of the main node have at each instant: for each output, in order of declaration, a name
+/// and a status for each instant. There is one output at least, and all have the same number of instants. A
+/// contract sees the list of `OutputColumn` of `specs/Tables.antt`.
 #[derive(Debug)]
 pub struct Outputs {
     columns: Vec<(String, Vec<Status>)>,

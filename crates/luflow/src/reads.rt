@@ -22,8 +22,8 @@ fn behind(a: usize, rest: &[usize], k: usize) -> Option<usize>
 }
 
 impl Form {
-    /// Operand k of a flow of this form, from 0 on; that of a `pre` too, and of a merge its clock variable and then its branches. None behind
-    /// the last. Takes no memory.
+    /// Operand k of a flow of this form, from 0 on; that of a `pre` too, and of a merge its clock variable
+    /// and then its branches. None behind the last. Takes no memory.
     pub fn operand(&self, k: usize) -> Option<usize>
         ensures { result ≡ slice_get (places self.now) k }
     {

@@ -14,8 +14,8 @@ use lubase::limits::MOST_INSTANTS;
 use lutree::Kind;
 use std::marker::Model;
 
-/// The table of the main node's inputs: the number of instants, and for each input, in order of declaration, a name and a
-/// value for each instant. A contract sees the `InputsView` of `specs/Program.antt`.
+/// The table of the main node's inputs: the number of instants, and for each input, in order of declaration,
+/// a name and a value for each instant. A contract sees the `InputsView` of `specs/Program.antt`.
 #[derive(Debug)]
 pub struct Inputs {
     instants: u32,
@@ -127,8 +127,8 @@ fn are_columns_of(variables: &[Variable], columns: &[(String, Values)]) -> bool
 }
 
 impl Inputs {
-    /// The table of these columns. None exactly for more than 1,000,000 instants, or where the length of a column is not
-    /// the number of instants. Takes no memory.
+    /// The table of these columns. None exactly for more than 1,000,000 instants, or where the length of a
+    /// column is not the number of instants. Takes no memory.
     pub fn new(instants: u32, columns: Vec<(String, Values)>) -> Option<Inputs>
         ensures when { IsSome result ↔ IsTable (record {
           instants = instants;
@@ -148,7 +148,8 @@ impl Inputs {
         }
     }
 
-    /// Does nothing. A proof has from it that the table isn't too long and that each column has a value for each instant.
+    /// Does nothing. A proof has from it that the table isn't too long and that each column has a value for
+    /// each instant.
     pub fn recall_invariant(&self)
         ensures { IsTable self.now }
     {
@@ -169,8 +170,9 @@ impl Inputs {
     {
         self.columns.as_slice()
     }
-    /// Whether the columns are the program's inputs in order of declaration, each of the input's name and with a value of its
-    /// type at each instant; nil is none. Takes no memory; the time grows with the number of values.
+    /// Whether the columns are the program's inputs in order of declaration, each of the input's name and
+    /// with a value of its type at each instant; nil is none. Takes no memory; the time grows with the number
+    /// of values.
     pub fn fits(&self, flat: &Flat) -> bool
         ensures exact { IsTrue result ↔ FitsProgram flat.now self.now }
         ensures fit { IsTrue result → IsFit flat.now self.now }

@@ -8,7 +8,8 @@ use crate::data::Datum;
 use lutree::Kind;
 use std::alloc::{AllocError, Global};
 
-/// A list of values in order. Lists of one type take fewer bytes. A contract reads the values by `data_in` of `specs/Packed.antt`.
+/// A list of values in order. Lists of one type take fewer bytes. A contract reads the values by `data_in` of
+/// `specs/Packed.antt`.
 #[derive(Debug)]
 pub enum Values {
     /// Whole numbers, 8 bytes each.
@@ -101,7 +102,8 @@ impl Values {
         }
     }
 
-    /// The value of this number, counted from 0. None exactly where there are no more than so many. Takes no memory.
+    /// The value of this number, counted from 0. None exactly where there are no more than so many. Takes no
+    /// memory.
     #[inline]
     pub fn get(&self, i: usize) -> Option<Datum>
         ensures { result ≡ slice_get (data_in self.now) i }

@@ -41,7 +41,8 @@ impl Drop for Enum {
     }
 }
 
-/// The names of a type of a program with these types, in order of declaration; none where it is no enumeration.
+/// The names of a type of a program with these types, in order of declaration; none where it is no
+/// enumeration.
 pub fn names_of(types: &[Enum], kind: Kind) -> &[Name]
     ensures { result.now ≡ names_of types.now kind }
 {

@@ -14,7 +14,7 @@ use lueval::{EvalError, whole_flows};
 use luflow::{Flat, Inputs, Outputs, Status};
 use std::alloc::{AllocError, Global};
 
-// A mark for each of so many flows: whether some variable has it.
+/// A mark for each of so many flows: whether some variable has it.
 fn marks(alloc: Global, count: usize, variables: &[DeepVariable]) -> Result<Vec<bool>, AllocError>
     requires { All (λ d. d.flow < count) variables.now }
     ensures { IfOk result (λ marks. All (λ d. slice_get marks.items d.flow ≡ Some true) variables.now) }
@@ -26,7 +26,7 @@ fn marks(alloc: Global, count: usize, variables: &[DeepVariable]) -> Result<Vec<
     Ok(marks)
 }
 
-// The column of a variable, copied.
+/// The column of a variable, copied.
 fn column(
     alloc: Global,
     variable: &DeepVariable,
@@ -43,7 +43,7 @@ fn column(
     Ok((name, statuses))
 }
 
-// The columns of variables, in order.
+/// The columns of variables, in order.
 fn columns(
     alloc: Global,
     variables: &[DeepVariable],
@@ -60,9 +60,9 @@ fn columns(
     Ok(columns)
 }
 
-/// Evaluates the whole program at a table, and gives the streams of variables of instances: by name, in their order, each with its
-/// stream in the only solution; or the first fault. The memory is twice a status for each of them and each instant, and a fixed
-/// amount for each flow.
+/// Evaluates the whole program at a table, and gives the streams of variables of instances: by name, in their
+/// order, each with its stream in the only solution; or the first fault. The memory is twice a status for
+/// each of them and each instant, and a fixed amount for each flow.
 ///
 /// # Errors
 ///

@@ -21,7 +21,8 @@ pub struct FirstFault {
     pub site: FaultSite,
 }
 
-/// The first fault of a program at a table and its operator, given the flat program; none where there is none.
+/// The first fault of a program at a table and its operator, given the flat program; none where there is
+/// none.
 ///
 /// # Errors
 ///

@@ -2,7 +2,8 @@
 
 ghost use Rattle.luinside.specs.Columns.{DeepColumnsLaw};
 
-/// The columns of all variables of all instances are, in each solution of the source, what these variables have there.
+/// The columns of all variables of all instances are, in each solution of the source, what these variables
+/// have there.
 pub fn deep_columns_law()
     ensures { DeepColumnsLaw }
 {}

@@ -17,16 +17,17 @@ use std::alloc::{AllocError, Global};
 /// An instance of a node.
 #[derive(Drop)]
 pub struct Instance {
-    /// The numbers of the calls that lead to it, from the main node on, each among the calls of its node, counted from 0. Calls are
-    /// numbered as their arguments end in the text.
+    /// The numbers of the calls that lead to it, from the main node on, each among the calls of its node,
+    /// counted from 0. Calls are numbered as their arguments end in the text.
     pub path: Row<usize>,
     /// The place of its node in the program's text, counted from 0.
     pub node: usize,
-    /// The place in the flat program of its first variable; the others stand behind it in order of declaration.
+    /// The place in the flat program of its first variable; the others stand behind it in order of
+    /// declaration.
     pub start: usize,
 }
 
-// A copy of an instance.
+/// A copy of an instance.
 fn copied(alloc: Global, instance: &Instance) -> Result<Instance, AllocError>
     ensures { IfOk result (λ copy. copy ≡ instance.now) }
 {
@@ -39,7 +40,7 @@ fn copied(alloc: Global, instance: &Instance) -> Result<Instance, AllocError>
     })
 }
 
-// The path of a call of the instance at a path.
+/// The path of a call of the instance at a path.
 fn with_call(alloc: Global, path: &[usize], call: usize) -> Result<Row<usize>, AllocError>
     ensures { IfOk result (λ row. row ≡ path.now ++ call ∷ []) }
 {
@@ -49,7 +50,7 @@ fn with_call(alloc: Global, path: &[usize], call: usize) -> Result<Row<usize>, A
     Ok(Row::new(items))
 }
 
-// The calls of the node at a place; none where there is no node.
+/// The calls of the node at a place; none where there is no node.
 fn starts_at(
     alloc: Global,
     catalog: &Catalog,
@@ -67,7 +68,8 @@ fn starts_at(
     }
 }
 
-// Puts an instance behind those before, and then the instances inside it to which so many calls lead at most.
+/// Puts an instance behind those before, and then the instances inside it to which so many calls lead at
+/// most.
 fn push_from(
     alloc: Global,
     catalog: &Catalog,
@@ -99,7 +101,7 @@ fn push_from(
     Ok(())
 }
 
-// The instance of the main node, by its place.
+/// The instance of the main node, by its place.
 fn main_instance(alloc: Global, place: usize) -> Instance
     ensures { result ≡ record { path = []; node = place; start = 0 } }
 {
@@ -110,8 +112,8 @@ fn main_instance(alloc: Global, place: usize) -> Instance
     }
 }
 
-/// All instances of a program, the main one first: each before those that it calls, and these in order of their calls. Where the flat
-/// list has more than 4,096 flows, none is listed.
+/// All instances of a program, the main one first: each before those that it calls, and these in order of
+/// their calls. Where the flat list has more than 4,096 flows, none is listed.
 ///
 /// The expected time grows with the length of the program, and with the text and the path of each instance.
 ///

@@ -30,7 +30,7 @@ pub fn name_in(names: &[Name], place: usize) -> &str
     }
 }
 
-// Adds the names of the nodes that an expression calls.
+/// Adds the names of the nodes that an expression calls.
 #[cycle(calls)]
 fn push_called<'a>(called: &mut Vec<&'a str>, e: &'a Expr) -> Result<(), AllocError>
     ensures { OnOk result (spelled called.new.items ≡ spelled called.old.items
@@ -57,7 +57,7 @@ fn push_called<'a>(called: &mut Vec<&'a str>, e: &'a Expr) -> Result<(), AllocEr
     }
 }
 
-// Adds the names of the nodes that the arguments of a call or the branches of a merge call.
+/// Adds the names of the nodes that the arguments of a call or the branches of a merge call.
 #[cycle(calls)]
 fn push_all_called<'a>(called: &mut Vec<&'a str>, all: &'a [Expr]) -> Result<(), AllocError>
     ensures { OnOk result (spelled called.new.items ≡ spelled called.old.items
@@ -69,7 +69,7 @@ fn push_all_called<'a>(called: &mut Vec<&'a str>, all: &'a [Expr]) -> Result<(),
     Ok(())
 }
 
-// Adds a name.
+/// Adds a name.
 fn push_name<'a>(called: &mut Vec<&'a str>, name: &'a str) -> Result<(), AllocError>
     ensures { OnOk result (spelled called.new.items ≡ spelled called.old.items ++ name.now ∷ []) }
 {
@@ -77,7 +77,7 @@ fn push_name<'a>(called: &mut Vec<&'a str>, name: &'a str) -> Result<(), AllocEr
     Ok(())
 }
 
-// The names of the nodes that an expression calls.
+/// The names of the nodes that an expression calls.
 fn called_in(alloc: Global, e: &Expr) -> Result<Vec<&str>, AllocError>
     ensures { IfOk result (λ called. spelled called.items ≡ names_called (calls_in (view e.now))) }
 {
@@ -86,7 +86,7 @@ fn called_in(alloc: Global, e: &Expr) -> Result<Vec<&str>, AllocError>
     Ok(called)
 }
 
-// The name of the call of this number, of a node of this name, in the equation of this first variable.
+/// The name of the call of this number, of a node of this name, in the equation of this first variable.
 fn step_name(alloc: Global, first: &str, called: &str, number: usize) -> Result<Name, AllocError>
     ensures { IfOk result (λ name. name ≡ first.now ++ (codes "." ++ (called.now ++ (codes "#"
         ++ decimal number)))) }
@@ -94,7 +94,7 @@ fn step_name(alloc: Global, first: &str, called: &str, number: usize) -> Result<
     Ok(Name::new(format!(in alloc; "{first}.{called}#{number}")?))
 }
 
-// Puts the names of the calls of an equation behind those before.
+/// Puts the names of the calls of an equation behind those before.
 fn push_steps(alloc: Global, equation: &Equation, steps: &mut Vec<Name>) -> Result<(), AllocError>
     ensures { OnOk result (steps.new.items ≡ steps.old.items
         ++ equation_steps (equation_view equation.now)) }
@@ -107,7 +107,8 @@ fn push_steps(alloc: Global, equation: &Equation, steps: &mut Vec<Name>) -> Resu
     Ok(())
 }
 
-/// The names of the calls of a node, in order of their numbers. The time grows with the length of the node's text.
+/// The names of the calls of a node, in order of their numbers. The time grows with the length of the node's
+/// text.
 pub fn steps_of(alloc: Global, node: &Node) -> Result<Row<Name>, AllocError>
     ensures { IfOk result (λ steps. steps ≡ steps_of (node_view node.now)) }
 {

@@ -46,7 +46,7 @@ pub enum Reached<'a> {
     At(Own<'a>),
 }
 
-// How many flows an expression makes behind those of its operands.
+/// How many flows an expression makes behind those of its operands.
 pub fn own_count(search: &Search, e: &Expr) -> usize
     ensures { result ≡ own_size (program_view search.now.catalog.now) search.now.counts.now
         (view e.now) }
@@ -59,7 +59,7 @@ pub fn own_count(search: &Search, e: &Expr) -> usize
     }
 }
 
-// How many flows the root of an expression is: none for a variable and a call, one for any other.
+/// How many flows the root of an expression is: none for a variable and a call, one for any other.
 pub fn root(e: &Expr) -> usize
     ensures { result ≡ root_size (view e.now) }
 {
@@ -69,7 +69,7 @@ pub fn root(e: &Expr) -> usize
     }
 }
 
-// How many calls an expression is itself.
+/// How many calls an expression is itself.
 fn calls(e: &Expr) -> usize
     ensures { result ≡ own_calls (view e.now) }
 {
@@ -103,7 +103,7 @@ pub fn made(search: &Search, e: &Expr) -> Result<usize, AllocError>
     sum_of(operands, own_count(search, e))
 }
 
-// The same of the arguments of a call, or the branches of a merge.
+/// The same of the arguments of a call, or the branches of a merge.
 #[cycle(made)]
 fn all_made(search: &Search, all: &[Expr]) -> Result<usize, AllocError>
     ensures { IfOk result (λ count. count ≡ all_size (program_view search.now.catalog.now)
@@ -116,7 +116,7 @@ fn all_made(search: &Search, all: &[Expr]) -> Result<usize, AllocError>
     Ok(count)
 }
 
-// The own flows of an expression, so many, passed behind those of its operands.
+/// The own flows of an expression, so many, passed behind those of its operands.
 fn with_own<'a>(
     search: &Search,
     e: &'a Expr,
@@ -149,7 +149,7 @@ fn with_own<'a>(
     }
 }
 
-// The last number taken away, unless the target is reached.
+/// The last number taken away, unless the target is reached.
 fn leave(reached: Reached<'_>, part: &mut Vec<usize>)
     ensures { Leaves reached.entry part.old.items part.new.items }
 {
@@ -158,8 +158,8 @@ fn leave(reached: Reached<'_>, part: &mut Vec<usize>)
     }
 }
 
-/// An expression of a number, passed with so many of its own flows. The number is put behind those before, and with it those that
-/// lead on to the target, if it is found.
+/// An expression of a number, passed with so many of its own flows. The number is put behind those before,
+/// and with it those that lead on to the target, if it is found.
 ///
 /// # Errors
 ///
@@ -187,7 +187,7 @@ pub fn enter<'a>(
     Ok(reached)
 }
 
-// The operands of an expression, passed.
+/// The operands of an expression, passed.
 #[cycle(passing)]
 fn inside<'a>(
     search: &Search,
@@ -234,7 +234,7 @@ fn inside<'a>(
     }
 }
 
-// An operand of a number, passed unless the target is reached before.
+/// An operand of a number, passed unless the target is reached before.
 #[cycle(passing)]
 fn pass<'a>(
     search: &Search,
@@ -254,7 +254,7 @@ fn pass<'a>(
     }
 }
 
-// The arguments of a call, or the branches of a merge, passed.
+/// The arguments of a call, or the branches of a merge, passed.
 #[cycle(passing)]
 fn pass_all<'a>(
     search: &Search,

@@ -13,7 +13,7 @@ use lusyn_grammar::{Fixed, LexError, Lexeme, Token, lex};
 use lutree::{Equation, Expr};
 use std::alloc::{AllocError, Global};
 
-// Whether a token is neither a parenthesis nor a comma.
+/// Whether a token is neither a parenthesis nor a comma.
 fn is_sign(token: Token) -> bool
     ensures { result ≡ spec.is_sign (tok token.entry) }
 {
@@ -23,7 +23,7 @@ fn is_sign(token: Token) -> bool
     }
 }
 
-// The signs among these tokens that stand at a byte or behind it.
+/// The signs among these tokens that stand at a byte or behind it.
 fn signs_from<'t>(
     alloc: Global,
     lexemes: &[Lexeme<'t>],
@@ -41,7 +41,7 @@ fn signs_from<'t>(
     Ok(found)
 }
 
-// Whether two tokens are the same.
+/// Whether two tokens are the same.
 fn is_same(one: Token, other: Token) -> bool
     ensures { IsTrue result → tok one.entry ≡ tok other.entry }
 {
@@ -53,7 +53,7 @@ fn is_same(one: Token, other: Token) -> bool
     }
 }
 
-// Whether a token is the one of a number among some.
+/// Whether a token is the one of a number among some.
 fn is_at(lexemes: &[Lexeme], i: usize, sign: Token) -> bool
     ensures { IsTrue result → slice_get (toks lexemes.now) i ≡ Some (tok sign.entry) }
 {
@@ -63,7 +63,7 @@ fn is_at(lexemes: &[Lexeme], i: usize, sign: Token) -> bool
     }
 }
 
-// Whether some tokens begin with these.
+/// Whether some tokens begin with these.
 fn begin_with(lexemes: &[Lexeme], signs: &[Token]) -> bool
     ensures { IsTrue result → take (length signs.now) (toks lexemes.now) ≡ map tok signs.now }
 {
@@ -75,7 +75,7 @@ fn begin_with(lexemes: &[Lexeme], signs: &[Token]) -> bool
     true
 }
 
-// The byte of the sign that stands behind these among the tokens; none where they don't begin so.
+/// The byte of the sign that stands behind these among the tokens; none where they don't begin so.
 fn byte_behind(lexemes: &[Lexeme], signs: &[Token], sign: Fixed) -> Option<usize>
     ensures { IfSome result (λ byte. spec.IsBehind (located lexemes.now) (map tok signs.now)
         (fixed sign) byte) }
@@ -89,7 +89,7 @@ fn byte_behind(lexemes: &[Lexeme], signs: &[Token], sign: Fixed) -> Option<usize
     }
 }
 
-// The tokens of a text; none where it has none.
+/// The tokens of a text; none where it has none.
 fn tokens_of(alloc: Global, text: &str) -> Result<Option<Vec<Lexeme<'_>>>, AllocError>
     ensures { IfOk result (λ o. IfSome o (λ found. IsLexed text.now (located found.items))) }
 {
@@ -107,8 +107,8 @@ pub struct PlacedOperator<'t> {
     pub byte: usize,
 }
 
-/// The operator at a part of an equation of a text, and where it stands; none where the text hasn't the equation at the equation's byte, or
-/// no operator stands there.
+/// The operator at a part of an equation of a text, and where it stands; none where the text hasn't the
+/// equation at the equation's byte, or no operator stands there.
 pub(crate) fn placed_operator<'t>(
     alloc: Global,
     text: &str,

@@ -14,7 +14,7 @@ use lustat_rules::{Catalog, Scope};
 use lutree::{Expr, Infix, Prefix};
 use std::alloc::AllocError;
 
-// The place of a variable; behind all variables where the name is none.
+/// The place of a variable; behind all variables where the name is none.
 fn variable_place(scope: &Scope, name: &str) -> usize
     ensures { result ≡ place_of (variables_of (node_view scope.now)) name.now }
 {
@@ -24,7 +24,7 @@ fn variable_place(scope: &Scope, name: &str) -> usize
     }
 }
 
-// How many inputs the node has that a call means; 0 where it means none.
+/// How many inputs the node has that a call means; 0 where it means none.
 fn inputs_of(catalog: &Catalog, name: &str) -> usize
     ensures { result ≡ inputs_in (node_called (program_view catalog.now) name.now) }
 {
@@ -34,7 +34,7 @@ fn inputs_of(catalog: &Catalog, name: &str) -> usize
     }
 }
 
-// The place of an operand, whose flows end before a place.
+/// The place of an operand, whose flows end before a place.
 fn operand_place(
     search: &Search,
     scope: &Scope,

@@ -12,7 +12,7 @@ use lusyn_grammar::{Fixed, Token, infix_token, prefix_token};
 use lutree::{Condition, Expr, Pattern};
 use std::alloc::AllocError;
 
-// Adds a keyword or a sign.
+/// Adds a keyword or a sign.
 fn push_fixed(signs: &mut Vec<Token<'_>>, sign: Fixed) -> Result<(), AllocError>
     ensures { spec.Pushes result signs.old.items signs.new.items (fixed sign ∷ []) }
 {
@@ -20,7 +20,7 @@ fn push_fixed(signs: &mut Vec<Token<'_>>, sign: Fixed) -> Result<(), AllocError>
     Ok(())
 }
 
-// Adds a name.
+/// Adds a name.
 fn push_name<'t>(signs: &mut Vec<Token<'t>>, name: &'t str) -> Result<(), AllocError>
     ensures { spec.Pushes result signs.old.items signs.new.items (identifier name.now ∷ []) }
 {
@@ -28,14 +28,14 @@ fn push_name<'t>(signs: &mut Vec<Token<'t>>, name: &'t str) -> Result<(), AllocE
     Ok(())
 }
 
-// Adds `true` or `false`.
+/// Adds `true` or `false`.
 fn push_truth(signs: &mut Vec<Token<'_>>, truth: bool) -> Result<(), AllocError>
     ensures { spec.Pushes result signs.old.items signs.new.items (fixed (truth_token truth) ∷ []) }
 {
     push_fixed(signs, if truth { Fixed::True } else { Fixed::False })
 }
 
-// Adds `when` and a clock.
+/// Adds `when` and a clock.
 fn push_clock<'t>(signs: &mut Vec<Token<'t>>, clock: &'t Condition) -> Result<(), AllocError>
     ensures { spec.Pushes result signs.old.items signs.new.items (fixed Fixed.When
         ∷ spec.pattern_signs clock.now.pattern clock.now.variable) }
@@ -54,7 +54,7 @@ fn push_clock<'t>(signs: &mut Vec<Token<'t>>, clock: &'t Condition) -> Result<()
     }
 }
 
-// Adds what a branch begins with.
+/// Adds what a branch begins with.
 fn push_pattern<'t>(signs: &mut Vec<Token<'t>>, pattern: &'t Pattern) -> Result<(), AllocError>
     ensures { spec.Pushes result signs.old.items signs.new.items (spec.branch_signs pattern.now) }
 {
@@ -65,7 +65,7 @@ fn push_pattern<'t>(signs: &mut Vec<Token<'t>>, pattern: &'t Pattern) -> Result<
     push_fixed(signs, Fixed::Arrow)
 }
 
-// Adds a keyword and a name.
+/// Adds a keyword and a name.
 fn push_named<'t>(signs: &mut Vec<Token<'t>>, sign: Fixed, name: &'t str) -> Result<(), AllocError>
     ensures { spec.Pushes result signs.old.items signs.new.items (fixed sign
         ∷ identifier name.now ∷ []) }
@@ -74,7 +74,7 @@ fn push_named<'t>(signs: &mut Vec<Token<'t>>, sign: Fixed, name: &'t str) -> Res
     push_name(signs, name)
 }
 
-// Adds the signs of an expression.
+/// Adds the signs of an expression.
 #[cycle(signs)]
 fn push_signs<'t>(signs: &mut Vec<Token<'t>>, e: &'t Expr) -> Result<(), AllocError>
     ensures { spec.Pushes result signs.old.items signs.new.items (spec.signs (view e.now)) }
@@ -120,7 +120,7 @@ fn push_signs<'t>(signs: &mut Vec<Token<'t>>, e: &'t Expr) -> Result<(), AllocEr
     }
 }
 
-// Adds those of several expressions.
+/// Adds those of several expressions.
 #[cycle(signs)]
 fn push_all_signs<'t>(signs: &mut Vec<Token<'t>>, all: &'t [Expr]) -> Result<(), AllocError>
     ensures { spec.Pushes result signs.old.items signs.new.items (spec.all_signs (trees_of
@@ -132,7 +132,7 @@ fn push_all_signs<'t>(signs: &mut Vec<Token<'t>>, all: &'t [Expr]) -> Result<(),
     Ok(())
 }
 
-// Adds those of the branches of a merge.
+/// Adds those of the branches of a merge.
 #[cycle(signs)]
 fn push_branches<'t>(
     signs: &mut Vec<Token<'t>>,
@@ -152,7 +152,7 @@ fn push_branches<'t>(
     Ok(())
 }
 
-// Adds the signs of a merge before its branch of a number, which there is.
+/// Adds the signs of a merge before its branch of a number, which there is.
 fn push_to_branch<'t>(
     signs: &mut Vec<Token<'t>>,
     x: &'t str,
@@ -172,7 +172,7 @@ fn push_to_branch<'t>(
     }
 }
 
-// So many expressions at the front, or all where there are fewer.
+/// So many expressions at the front, or all where there are fewer.
 fn front_of(all: &[Expr], count: usize) -> &[Expr]
     ensures { result.now ≡ take count all.now }
 {
@@ -182,7 +182,7 @@ fn front_of(all: &[Expr], count: usize) -> &[Expr]
     }
 }
 
-// Adds the signs of an `if` before its operand of a number.
+/// Adds the signs of an `if` before its operand of a number.
 fn push_to_choice<'t>(
     signs: &mut Vec<Token<'t>>,
     c: &'t Expr,
@@ -205,7 +205,7 @@ fn push_to_choice<'t>(
     push_fixed(signs, Fixed::Else)
 }
 
-// Adds the signs of an expression before its operand of a number.
+/// Adds the signs of an expression before its operand of a number.
 fn push_to<'t>(signs: &mut Vec<Token<'t>>, e: &'t Expr, number: usize) -> Result<(), AllocError>
     ensures { spec.Pushes result signs.old.items signs.new.items (spec.signs_to (view e.now)
         number) }
@@ -236,14 +236,14 @@ fn push_to<'t>(signs: &mut Vec<Token<'t>>, e: &'t Expr, number: usize) -> Result
     }
 }
 
-// The only operand.
+/// The only operand.
 fn one_of(a: &Expr, number: usize) -> Option<&Expr>
     ensures { option_map (λ e. view e.now) result ≡ slice_get (view a.now ∷ []) number }
 {
     if number == 0 { Some(a) } else { None }
 }
 
-// One of two operands.
+/// One of two operands.
 fn two_of<'t>(a: &'t Expr, b: &'t Expr, number: usize) -> Option<&'t Expr>
     ensures { option_map (λ e. view e.now) result
         ≡ slice_get (view a.now ∷ view b.now ∷ []) number }
@@ -255,14 +255,14 @@ fn two_of<'t>(a: &'t Expr, b: &'t Expr, number: usize) -> Option<&'t Expr>
     }
 }
 
-// One of several.
+/// One of several.
 fn one_among(all: &[Expr], number: usize) -> Option<&Expr>
     ensures { option_map (λ e. view e.now) result ≡ slice_get (views all.now) number }
 {
     all.get(number)
 }
 
-// The operand of a number.
+/// The operand of a number.
 fn operand(e: &Expr, number: usize) -> Option<&Expr>
     ensures { option_map (λ a. view a.now) result ≡ slice_get (operands (view e.now)) number }
 {
@@ -283,7 +283,8 @@ fn operand(e: &Expr, number: usize) -> Option<&Expr>
     }
 }
 
-// Adds the signs of an expression before its part at these numbers, which is answered; none where there is no such part.
+/// Adds the signs of an expression before its part at these numbers, which is answered; none where there is
+/// no such part.
 fn push_before<'t>(
     signs: &mut Vec<Token<'t>>,
     e: &'t Expr,
@@ -305,7 +306,7 @@ fn push_before<'t>(
     Ok(Some(now))
 }
 
-// The sign of an operator, and those of its first operand where that stands before it; no operator is none.
+/// The sign of an operator, and those of its first operand where that stands before it; no operator is none.
 fn push_front<'t>(signs: &mut Vec<Token<'t>>, e: &'t Expr) -> Result<Option<Fixed>, AllocError>
     ensures sign { IfOk result (λ sign. option_map fixed sign ≡ spec.operator_sign (view e.now)) }
     ensures front { spec.Pushes result signs.old.items signs.new.items (spec.front (view e.now)) }
@@ -320,7 +321,7 @@ fn push_front<'t>(signs: &mut Vec<Token<'t>>, e: &'t Expr) -> Result<Option<Fixe
     }
 }
 
-// Adds the names of a left side, and the `=`.
+/// Adds the names of a left side, and the `=`.
 fn push_left<'t>(signs: &mut Vec<Token<'t>>, left: &'t [Name]) -> Result<(), AllocError>
     ensures { spec.Pushes result signs.old.items signs.new.items (spec.left_signs left.now) }
 {
@@ -330,8 +331,8 @@ fn push_left<'t>(signs: &mut Vec<Token<'t>>, left: &'t [Name]) -> Result<(), All
     push_fixed(signs, Fixed::Equal)
 }
 
-/// Adds the signs of an equation before the operator at a part of its right side, and answers the operator and its sign; none where no
-/// operator stands there.
+/// Adds the signs of an equation before the operator at a part of its right side, and answers the operator
+/// and its sign; none where no operator stands there.
 pub(crate) fn push_equation<'t>(
     signs: &mut Vec<Token<'t>>,
     left: &'t [Name],

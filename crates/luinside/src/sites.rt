@@ -16,21 +16,22 @@ use std::alloc::{AllocError, Global};
 /// A data operator in the text of a program, in one of its instances.
 #[derive(Drop)]
 pub struct FaultSite {
-    /// The numbers of the calls that lead to its instance, from the main node on, each among the calls of its node, counted from 0.
-    /// Calls are numbered as their arguments end in the text.
+    /// The numbers of the calls that lead to its instance, from the main node on, each among the calls of its
+    /// node, counted from 0. Calls are numbered as their arguments end in the text.
     pub path: Row<usize>,
     /// The place of its node in the program's text, counted from 0.
     pub node: usize,
     /// The place of its equation among those of the node, counted from 0.
     pub equation: usize,
-    /// Where it stands in the equation's right side: from the root on the numbers of the operands that have it inside, counted from 0.
-    /// The operands of a `merge` are its branches, and those of a call its arguments.
+    /// Where it stands in the equation's right side: from the root on the numbers of the operands that have
+    /// it inside, counted from 0. The operands of a `merge` are its branches, and those of a call its
+    /// arguments.
     pub part: Row<usize>,
     /// The places in the flat program of its operands' flows.
     pub reads: Reads,
 }
 
-// The operator where it stands in an instance, which begins at a place of the flat program.
+/// The operator where it stands in an instance, which begins at a place of the flat program.
 fn site(
     path: Vec<usize>,
     node: usize,
@@ -64,7 +65,7 @@ fn site(
     })
 }
 
-// The operator of a flow, sought from the main node's instance on.
+/// The operator of a flow, sought from the main node's instance on.
 fn follow(
     alloc: Global,
     catalog: &Catalog,
@@ -94,8 +95,8 @@ fn follow(
     Ok(None)
 }
 
-/// The operator of the source that a flow of the flat program is of, by the flow's place; none where the flow is of no data operator,
-/// as that of a constant, an `if` or a `pre`, or where there is none.
+/// The operator of the source that a flow of the flat program is of, by the flow's place; none where the flow
+/// is of no data operator, as that of a constant, an `if` or a `pre`, or where there is none.
 ///
 /// The expected time grows with the length of the program and with the text of the nodes on the way.
 ///

@@ -19,7 +19,7 @@ pub struct CallStart {
     pub at: usize,
 }
 
-// How many flows the root of an expression is: none for a variable and a call, one for any other.
+/// How many flows the root of an expression is: none for a variable and a call, one for any other.
 fn root(e: &Expr) -> usize
     ensures { result ≡ root_size (view e.now) }
 {
@@ -29,7 +29,7 @@ fn root(e: &Expr) -> usize
     }
 }
 
-// How many flows an operator between two operands makes.
+/// How many flows an operator between two operands makes.
 fn made(op: Infix) -> usize
     ensures { result ≡ own_size op }
 {
@@ -39,7 +39,8 @@ fn made(op: Infix) -> usize
     }
 }
 
-// Puts the calls of an expression, of which the first flow has a place, behind those before, and gives the place behind its flows.
+/// Puts the calls of an expression, of which the first flow has a place, behind those before, and gives the
+/// place behind its flows.
 #[cycle(starts)]
 fn push_starts(
     catalog: &Catalog,
@@ -87,7 +88,7 @@ fn push_starts(
     }
 }
 
-// The same of the arguments of a call, or the branches of a merge.
+/// The same of the arguments of a call, or the branches of a merge.
 #[cycle(starts)]
 fn push_all(
     catalog: &Catalog,

@@ -40,7 +40,7 @@ pub enum Step {
     Inside(Inside),
 }
 
-// An operator at these numbers, of which the first is its equation's.
+/// An operator at these numbers, of which the first is its equation's.
 fn with_numbers(alloc: Global, numbers: &[usize], reads: Reads) -> Result<Step, AllocError>
     ensures { IfOk result (λ step. (n : ℕ) (rest : List ℕ) → numbers.now ≡ n ∷ rest → step
         ≡ Step.Operator (record { equation = n; part = rest; reads = reads })) }
@@ -57,7 +57,7 @@ fn with_numbers(alloc: Global, numbers: &[usize], reads: Reads) -> Result<Step, 
     }))
 }
 
-// The node of a call, if the expression is one and means a node.
+/// The node of a call, if the expression is one and means a node.
 fn called(catalog: &Catalog, own: &Own) -> Option<Inside>
     ensures { IsInside (program_view catalog.now) own.now result }
 {

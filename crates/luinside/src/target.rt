@@ -23,14 +23,14 @@ pub enum Standing<'a> {
     Inner(Own<'a>),
 }
 
-// Whether a variable stands on the left side of an equation.
+/// Whether a variable stands on the left side of an equation.
 fn defines(equation: &Equation, name: &str) -> bool
     ensures { result ≡ is_defined name.now (equation_view equation.now) }
 {
     equation.left.as_slice().iter().any(|y| y.is(name))
 }
 
-// The inner flow of an equation that the target is, behind the variables.
+/// The inner flow of an equation that the target is, behind the variables.
 fn inner_at<'a>(
     search: &Search,
     scope: &Scope<'a>,
@@ -56,7 +56,7 @@ fn inner_at<'a>(
     Ok(None)
 }
 
-// The right side of the first equation that defines a variable, and where its flows but the root's end.
+/// The right side of the first equation that defines a variable, and where its flows but the root's end.
 fn root_at<'a>(
     search: &Search,
     scope: &Scope<'a>,

@@ -18,14 +18,15 @@ pub struct TextCall<'a> {
     pub name: &'a str,
 }
 
-// How far the calls of a text have been passed: so many are left, or the one that is looked for is of the node of this name.
+/// How far the calls of a text have been passed: so many are left, or the one that is looked for is of the
+/// node of this name.
 #[derive(Clone, Copy)]
 enum Reached<'a> {
     Left(usize),
     At(&'a str),
 }
 
-// The calls of an expression, passed.
+/// The calls of an expression, passed.
 #[cycle(texts)]
 fn pass<'a>(e: &'a Expr, reached: Reached<'a>) -> Reached<'a>
     ensures { Passes (calls_in (view e.now)) reached.entry result }
@@ -41,7 +42,7 @@ fn pass<'a>(e: &'a Expr, reached: Reached<'a>) -> Reached<'a>
     }
 }
 
-// A call of this name, passed.
+/// A call of this name, passed.
 fn pass_one<'a>(name: &'a str, reached: Reached<'a>) -> Reached<'a>
     ensures { (count : ℕ) → Passes (record { node = name.now; arguments = count } ∷ []) reached.entry
         result }
@@ -53,7 +54,7 @@ fn pass_one<'a>(name: &'a str, reached: Reached<'a>) -> Reached<'a>
     }
 }
 
-// The calls of the arguments of a call, or of the branches of a merge, passed.
+/// The calls of the arguments of a call, or of the branches of a merge, passed.
 #[cycle(texts)]
 fn pass_all<'a>(arguments: &'a [Expr], reached: Reached<'a>) -> Reached<'a>
     ensures { Passes (calls_in_all (trees_of (views arguments.now))) reached.entry result }
@@ -65,7 +66,8 @@ fn pass_all<'a>(arguments: &'a [Expr], reached: Reached<'a>) -> Reached<'a>
     now
 }
 
-/// The call of a number among those of a node, if there are as many. Calls are numbered as their arguments end in the text, from 0.
+/// The call of a number among those of a node, if there are as many. Calls are numbered as their arguments
+/// end in the text, from 0.
 pub fn call_at(node: &Node, number: usize) -> Option<TextCall<'_>>
     ensures there { IfSome result (IsCallAt (node_view node.now) number) }
     ensures called { option_map (λ call. call.name.now) result

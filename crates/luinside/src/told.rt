@@ -20,7 +20,8 @@ use std::alloc::{AllocError, Global};
 pub struct ToldFault {
     /// Where its sign stands in the text, in bytes from 0.
     pub byte: usize,
-    /// A line of where it stands and what it reads, and, where there are inputs, a line of what they have then.
+    /// A line of where it stands and what it reads, and, where there are inputs, a line of what they have
+    /// then.
     pub lines: String,
 }
 
@@ -35,7 +36,7 @@ pub enum Telling {
     Unclear,
 }
 
-// The name of the main variable in whose equation a flow stands.
+/// The name of the main variable in whose equation a flow stands.
 fn owner_name<'a>(flat: &'a Flat, place: usize) -> &'a str
     ensures { result.now ≡ spec.owner_name flat.now place }
 {
@@ -45,7 +46,7 @@ fn owner_name<'a>(flat: &'a Flat, place: usize) -> &'a str
     }
 }
 
-// Whether a fault is reported so.
+/// Whether a fault is reported so.
 fn is_line_of(
     flat: &Flat,
     found: &FoundFault,
@@ -58,7 +59,7 @@ fn is_line_of(
     owner_name(flat, found.place) == variable && found.instant == instant && found.kind == kind
 }
 
-// The equation at a place of a program.
+/// The equation at a place of a program.
 fn equation_at(program: &Program, node: usize, equation: usize) -> Option<&Equation>
     ensures { IfSome result (λ x. spec.IsEquationAt program.now node equation x.now) }
 {
@@ -68,7 +69,7 @@ fn equation_at(program: &Program, node: usize, equation: usize) -> Option<&Equat
     }
 }
 
-// What is told of the operator of the first fault; none where the text isn't that of the program.
+/// What is told of the operator of the first fault; none where the text isn't that of the program.
 fn told(
     alloc: Global,
     text: &str,
@@ -109,10 +110,12 @@ fn told(
     }
 }
 
-/// What is told of a fault that is reported by a main variable, an instant and a kind, of a program that a text spells, with its flat program
-/// and a table: where it is the first fault, where its operator stands, what it reads, and what the inputs have then.
+/// What is told of a fault that is reported by a main variable, an instant and a kind, of a program that a
+/// text spells, with its flat program and a table: where it is the first fault, where its operator stands,
+/// what it reads, and what the inputs have then.
 ///
-/// The program runs up to the fault. All memory for that is taken before the first instant: a fixed amount for each flow.
+/// The program runs up to the fault. All memory for that is taken before the first instant: a fixed amount
+/// for each flow.
 ///
 /// # Errors
 ///

@@ -21,21 +21,21 @@ use std::alloc::{AllocError, Global};
 /// A variable of an instance.
 #[derive(Drop)]
 pub struct DeepVariable {
-    /// Its name is that of its path, as `specs/Names.antt` says it: in the main node its own, in an instance of a call the calls that
-    /// lead there and then its own. Of an instance of a call each is a local.
+    /// Its name is that of its path, as `specs/Names.antt` says it: in the main node its own, in an instance
+    /// of a call the calls that lead there and then its own. Of an instance of a call each is a local.
     pub variable: Variable,
     /// The place of its flow in the flat program, counted from 0.
     pub flow: usize,
 }
 
-// How a variable of a role in its node stands in the main node.
+/// How a variable of a role in its node stands in the main node.
 fn role_at(path: &[usize], role: Role) -> Role
     ensures { result ≡ role_at path.now role }
 {
     if path.is_empty() { role } else { Role::Local }
 }
 
-// Puts variables of one role of the instance at a path behind those before. Their flows begin at a place.
+/// Puts variables of one role of the instance at a path behind those before. Their flows begin at a place.
 fn push_declared(
     alloc: Global,
     prefix: &str,
@@ -65,7 +65,7 @@ fn push_declared(
     Ok(())
 }
 
-// Puts the variables of the instance at a path, of a node, behind those before.
+/// Puts the variables of the instance at a path, of a node, behind those before.
 fn push_variables(
     alloc: Global,
     node: &Node,
@@ -89,7 +89,7 @@ fn push_variables(
     push_declared(alloc, prefix, path, Role::Local, locals, last, found)
 }
 
-// Puts the variables of an instance behind those before, and goes on the way to it.
+/// Puts the variables of an instance behind those before, and goes on the way to it.
 fn pass(
     alloc: Global,
     program: &Program,
@@ -111,11 +111,12 @@ fn pass(
     Ok(())
 }
 
-/// The variables of all instances of a program: instance by instance, in the order of `luinside::instances`, and in each in order of
-/// declaration. Those of the main node come first. Where there is no flat program of at most 4,096 flows, they mean nothing.
+/// The variables of all instances of a program: instance by instance, in the order of `luinside::instances`,
+/// and in each in order of declaration. Those of the main node come first. Where there is no flat program of
+/// at most 4,096 flows, they mean nothing.
 ///
-/// The expected time grows with the length of the program, with the text and the path of each instance, and with the length of the
-/// names.
+/// The expected time grows with the length of the program, with the text and the path of each instance, and
+/// with the length of the names.
 ///
 /// # Errors
 ///

@@ -17,7 +17,7 @@ pub struct Level {
     pub steps: Row<Name>,
 }
 
-// What the names in the instance of a call begin with, given the level of the instance that makes it.
+/// What the names in the instance of a call begin with, given the level of the instance that makes it.
 fn prefix_inside(alloc: Global, level: &Level, call: usize) -> Result<Name, AllocError>
     ensures { IfOk result (λ prefix. prefix ≡ level.now.prefix ++ (name_at level.now.steps call
         ++ codes ".")) }
@@ -27,8 +27,8 @@ fn prefix_inside(alloc: Global, level: &Level, call: usize) -> Result<Name, Allo
     Ok(Name::new(format!(in alloc; "{before}{step}.")?))
 }
 
-/// What the names in the instance at a path begin with, by the levels of the way to it; nothing where that of the instance before
-/// is missing.
+/// What the names in the instance at a path begin with, by the levels of the way to it; nothing where that of
+/// the instance before is missing.
 pub fn prefix_of(alloc: Global, way: &[Level], path: &[usize]) -> Result<Name, AllocError>
     ensures first { length path.now ≡ 0 → IfOk result (λ prefix. prefix ≡ []) }
     ensures later { 0 < length path.now → IfOk result (λ prefix. prefix

@@ -19,7 +19,7 @@ use lutab::put_datum;
 use lutree::{Equation, Expr, Node};
 use std::alloc::{AllocError, Global};
 
-// The first name; the empty text where there is none.
+/// The first name; the empty text where there is none.
 fn first_name(names: &[Name]) -> &str
     ensures { result.now ≡ name_at names.now 0 }
 {
@@ -29,7 +29,7 @@ fn first_name(names: &[Name]) -> &str
     }
 }
 
-// A call in words.
+/// A call in words.
 fn call_text(
     alloc: Global,
     variable: &str,
@@ -42,14 +42,14 @@ fn call_text(
     format!(in alloc; " of {called}#{number}, called in {variable}'s equation")
 }
 
-// A call of a node: the name of the node that it calls, and the call in words with a text behind it.
+/// A call of a node: the name of the node that it calls, and the call in words with a text behind it.
 #[derive(Drop)]
 struct Called<'a> {
     called: &'a str,
     text: String,
 }
 
-// The call of a number of a node, with this text behind it; none where there are fewer calls.
+/// The call of a number of a node, with this text behind it; none where there are fewer calls.
 fn step<'a>(
     alloc: Global,
     node: &'a Node,
@@ -79,7 +79,7 @@ fn step<'a>(
     }
 }
 
-// The calls of a path in words, the innermost first; none where there is no such path.
+/// The calls of a path in words, the innermost first; none where there is no such path.
 fn path_text<'a>(
     alloc: Global,
     catalog: &Catalog<'a>,
@@ -106,7 +106,7 @@ fn path_text<'a>(
     Ok(Some(text))
 }
 
-// Whether an expression is its own value.
+/// Whether an expression is its own value.
 fn is_constant(e: &Expr) -> bool
     ensures { result ≡ spec.is_constant (view e.now) }
 {
@@ -116,7 +116,7 @@ fn is_constant(e: &Expr) -> bool
     }
 }
 
-// An operand and its value; nothing of a constant.
+/// An operand and its value; nothing of a constant.
 fn value_text(alloc: Global, e: &Expr, datum: Datum) -> Result<String, AllocError>
     ensures { IfOk result (λ text. string_bytes text ≡ spec.value_text (view e.now) datum) }
 {
@@ -130,7 +130,7 @@ fn value_text(alloc: Global, e: &Expr, datum: Datum) -> Result<String, AllocErro
     Ok(text)
 }
 
-// The same of a value that there may be.
+/// The same of a value that there may be.
 fn value_text_of(alloc: Global, e: &Expr, datum: Option<Datum>) -> Result<String, AllocError>
     ensures { IfOk result (λ text. string_bytes text ≡ spec.value_text_of (view e.now) datum) }
 {
@@ -140,7 +140,7 @@ fn value_text_of(alloc: Global, e: &Expr, datum: Option<Datum>) -> Result<String
     }
 }
 
-// The first operand of an operator, and its value.
+/// The first operand of an operator, and its value.
 fn first_value(alloc: Global, e: &Expr, found: &FoundFault) -> Result<String, AllocError>
     ensures { IfOk result (λ text. string_bytes text ≡ spec.first_value (view e.now) found.now) }
 {
@@ -150,7 +150,7 @@ fn first_value(alloc: Global, e: &Expr, found: &FoundFault) -> Result<String, Al
     }
 }
 
-// The second operand, and its value.
+/// The second operand, and its value.
 fn second_value(alloc: Global, e: &Expr, found: &FoundFault) -> Result<String, AllocError>
     ensures { IfOk result (λ text. string_bytes text ≡ spec.second_value (view e.now) found.now) }
 {
@@ -160,7 +160,7 @@ fn second_value(alloc: Global, e: &Expr, found: &FoundFault) -> Result<String, A
     }
 }
 
-// Adds a value, which may be nothing.
+/// Adds a value, which may be nothing.
 fn put_value(text: &mut String, a: &str) -> Result<(), AllocError>
     ensures { OnOk result (string_bytes text.new ≡ string_bytes text.old ++ spec.one_value a.now) }
 {
@@ -171,7 +171,7 @@ fn put_value(text: &mut String, a: &str) -> Result<(), AllocError>
     text.push_str(a)
 }
 
-// Adds two values, of which one or both may be nothing.
+/// Adds two values, of which one or both may be nothing.
 fn put_values(text: &mut String, a: &str, b: &str) -> Result<(), AllocError>
     ensures { OnOk result (string_bytes text.new ≡ string_bytes text.old
         ++ spec.both_values a.now b.now) }
@@ -188,7 +188,7 @@ fn put_values(text: &mut String, a: &str, b: &str) -> Result<(), AllocError>
     }
 }
 
-// An operator with its operands, and their values.
+/// An operator with its operands, and their values.
 fn operator_text(alloc: Global, e: &Expr, found: &FoundFault) -> Result<String, AllocError>
     ensures { IfOk result (λ text. string_bytes text
         ≡ spec.operator_text (view e.now) found.now) }
@@ -201,7 +201,7 @@ fn operator_text(alloc: Global, e: &Expr, found: &FoundFault) -> Result<String, 
     Ok(text)
 }
 
-// What column c has at an instant; nil where there is none.
+/// What column c has at an instant; nil where there is none.
 fn datum_in(columns: &[(String, Values)], t: u32, c: usize) -> Datum
     ensures { result ≡ unwrap_or (slice_get (data_of (slice_get (columns_view columns.now) c)) t)
         Nil }
@@ -213,14 +213,14 @@ fn datum_in(columns: &[(String, Values)], t: u32, c: usize) -> Datum
     datum.unwrap_or(Datum::Nil)
 }
 
-// What the table has of input c at an instant; nil where there is none.
+/// What the table has of input c at an instant; nil where there is none.
 fn given(inputs: &Inputs, t: u32, c: usize) -> Datum
     ensures { result ≡ spec.given inputs.now t c }
 {
     datum_in(inputs.columns(), t, c)
 }
 
-// Adds input c at an instant.
+/// Adds input c at an instant.
 fn put_input(
     text: &mut String,
     types: &[Enum],
@@ -240,7 +240,7 @@ fn put_input(
     put_datum(text, names_of(types, x.kind), given(inputs, t, c))
 }
 
-// Adds all inputs at an instant.
+/// Adds all inputs at an instant.
 fn put_inputs(
     text: &mut String,
     types: &[Enum],
@@ -257,7 +257,7 @@ fn put_inputs(
     Ok(())
 }
 
-// Adds a line of the inputs at an instant; none where there are no inputs.
+/// Adds a line of the inputs at an instant; none where there are no inputs.
 fn put_inputs_line(
     text: &mut String,
     types: &[Enum],
@@ -276,7 +276,7 @@ fn put_inputs_line(
     text.push('\n')
 }
 
-// Where an operator stands, and what it reads.
+/// Where an operator stands, and what it reads.
 fn first_line(
     alloc: Global,
     equation: &Equation,
@@ -290,7 +290,8 @@ fn first_line(
     format!(in alloc; "in {variable}'s equation{path}: {operator}\n")
 }
 
-/// Where an operator stands, what it reads, and the inputs at the instant of its fault; none where there is no such path.
+/// Where an operator stands, what it reads, and the inputs at the instant of its fault; none where there is
+/// no such path.
 pub(crate) fn told_lines<'a>(
     alloc: Global,
     catalog: &Catalog<'a>,

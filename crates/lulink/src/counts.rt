@@ -10,7 +10,8 @@ use crate::opening::LinkNo;
 pub struct Tally {
     /// How many it has passed: put, or taken.
     pub passed: u64,
-    /// How many messages, of these and the next one, found the link full, or empty, at a try; each counts once.
+    /// How many messages, of these and the next one, found the link full, or empty, at a try; each counts
+    /// once.
     pub waited: u64,
     /// The greatest number of messages in the link that a look of a try showed.
     pub most: u64,

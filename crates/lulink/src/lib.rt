@@ -1,5 +1,5 @@
-//! The links of a run: numbered messages go from one site to another over a ring without a lock, which has one producer and
-//! one consumer.
+//! The links of a run: numbered messages go from one site to another over a ring without a lock, which has
+//! one producer and one consumer.
 //!
 //! - [`Msg`], [`Body`], [`LinkNo`]: what crosses, and over which link.
 //! - [`open_link`], [`LinkError`]: both ends of a link.

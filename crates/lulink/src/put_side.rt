@@ -1,5 +1,5 @@
-//! The producer's side of a ring. Between two calls it may already have the slots of its next messages, so that it needs no look
-//! at the consumer's word as long as the one that it loaded last shows room.
+//! The producer's side of a ring. Between two calls it may already have the slots of its next messages, so
+//! that it needs no look at the consumer's word as long as the one that it loaded last shows room.
 
 ghost use Rattle.std.specs.Prelude.{◌≡◌, ◌+◌, ◌-◌, ◌<◌, ◌≤◌, ◌%◌, [], ◌∷◌, ◌++◌, length, Option, Some, slice_get};
 ghost use Rattle.atomic_table.specs.Table.{rest};

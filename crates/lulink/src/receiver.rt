@@ -27,8 +27,8 @@ pub enum TakeError {
     Gone,
 }
 
-/// The receiver's end. A contract sees its job and link, the capacity, which ring it is of, what was taken, the sender's
-/// words that its loads gave, and what it counted at them. An end that is dropped leaves.
+/// The receiver's end. A contract sees its job and link, the capacity, which ring it is of, what was taken,
+/// the sender's words that its loads gave, and what it counted at them. An end that is dropped leaves.
 pub struct Rx {
     pub(crate) ring: Arc<Ring>,
     pub(crate) side: TakeSide,
@@ -84,9 +84,9 @@ impl Rx {
         self.link
     }
 
-    /// Takes the next message of the link's list, if it is there. `None`: nothing was taken. Looks at the sender's word once, or
-    /// not at all where the word that it saw last shows a message; so `None` is as of this call. Never waits, and takes no
-    /// memory.
+    /// Takes the next message of the link's list, if it is there. `None`: nothing was taken. Looks at the
+    /// sender's word once, or not at all where the word that it saw last shows a message; so `None` is as of
+    /// this call. Never waits, and takes no memory.
     pub fn poll(&mut self) -> Option<Msg>
         ensures taken { TakenOrNot result self.old self.new }
         ensures whole { IfSome result (λ m. IsWholeAt m self.new) }
@@ -99,10 +99,11 @@ impl Rx {
         self.side.take(ring)
     }
 
-    /// Takes as many messages as are there, at most so many, puts them behind those of the buffer, in order, and says how many:
-    /// the sender sees all of that room at once. Looks at the sender's word once, or not at all where an earlier look showed as
-    /// many messages; so where fewer were taken, the link was empty as of this call. Where none is asked for, it looks once, and
-    /// takes nothing. Never waits, and takes no memory: the buffer has room for all that is asked for.
+    /// Takes as many messages as are there, at most so many, puts them behind those of the buffer, in order,
+    /// and says how many: the sender sees all of that room at once. Looks at the sender's word once, or not
+    /// at all where an earlier look showed as many messages; so where fewer were taken, the link was empty as
+    /// of this call. Where none is asked for, it looks once, and takes nothing. Never waits, and takes no
+    /// memory: the buffer has room for all that is asked for.
     pub fn poll_run(&mut self, most: usize, into: &mut Vec<Msg>) -> usize
         requires { length into.old.items + most ≤ vec_capacity into.old }
         ensures within { result ≤ most }
@@ -125,8 +126,8 @@ impl Rx {
         self.side.sees_gone(ring)
     }
 
-    /// Takes the next message of the link's list. Waits while the link is empty and the sender is there. `Gone`: nothing was
-    /// taken, and all that was put has been. Takes no memory.
+    /// Takes the next message of the link's list. Waits while the link is empty and the sender is there.
+    /// `Gone`: nothing was taken, and all that was put has been. Takes no memory.
     pub fn take<R: Wait>(&mut self, rt: &R) -> Result<Msg, TakeError>
         ensures taken { IfOk result (λ m. HasTaken m self.old self.new × IsNextToTake self.old m) }
         ensures whole { IfOk result (λ m. IsWholeAt m self.new) }
@@ -151,8 +152,8 @@ impl Rx {
         unreachable!()
     }
 
-    /// How many messages were taken, how many found the link empty, and how many were in it at most, by this end's looks. Takes
-    /// no memory.
+    /// How many messages were taken, how many found the link empty, and how many were in it at most, by this
+    /// end's looks. Takes no memory.
     pub fn tally(&self) -> Tally
         ensures passed { result.passed ≡ length self.now.taken }
         ensures waited { result.waited ≡ self.now.counts.waited }
@@ -191,7 +192,8 @@ impl Rx {
         let _side = &self.side;
     }
 
-    /// Ends the use of this end, as dropping it does: the sender's `gone` is true from then on. Takes no memory.
+    /// Ends the use of this end, as dropping it does: the sender's `gone` is true from then on. Takes no
+    /// memory.
     pub fn leave(self) {}
 }
 

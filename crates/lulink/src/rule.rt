@@ -1,4 +1,5 @@
-//! The rule of a link's ring, which holds between any two steps of its ends, and what each kind of step shows its own end.
+//! The rule of a link's ring, which holds between any two steps of its ends, and what each kind of step shows
+//! its own end.
 
 use atomic_table::{Play, Seat as TableSeat, Split, Table, TableRule};
 use luflow::Msg;
@@ -22,9 +23,9 @@ pub enum Role {
     Consumer,
 }
 
-/// What a seat knows: its role, the ring's number of slots and list, how many messages its end has passed, the words that its
-/// loads gave, the last of them (0 before the first), how many slots of its next messages it has, and whether its end has left.
-/// No value of it is made.
+/// What a seat knows: its role, the ring's number of slots and list, how many messages its end has passed,
+/// the words that its loads gave, the last of them (0 before the first), how many slots of its next messages
+/// it has, and whether its end has left. No value of it is made.
 pub struct EndState {
     pub role: Role,
     pub room: u64,

@@ -34,8 +34,8 @@ pub enum PutError {
     Gone(Msg),
 }
 
-/// The sender's end. A contract sees its job and link, the capacity, which ring it is of, what was put, the receiver's
-/// words that its loads gave, and what it counted at them. An end that is dropped leaves.
+/// The sender's end. A contract sees its job and link, the capacity, which ring it is of, what was put, the
+/// receiver's words that its loads gave, and what it counted at them. An end that is dropped leaves.
 pub struct Tx {
     pub(crate) ring: Arc<Ring>,
     pub(crate) side: PutSide,
@@ -91,9 +91,9 @@ impl Tx {
         self.link
     }
 
-    /// Puts the next message of the link's list, if there is room. `Full` hands it back: nothing was put. Looks at the
-    /// receiver's word once, or not at all where the word that it saw last shows room; so `Full` is as of this call.
-    /// Never waits, and takes no memory.
+    /// Puts the next message of the link's list, if there is room. `Full` hands it back: nothing was put.
+    /// Looks at the receiver's word once, or not at all where the word that it saw last shows room; so `Full`
+    /// is as of this call. Never waits, and takes no memory.
     pub fn offer(&mut self, msg: Msg) -> Offer
         requires { IsNextToPut self.old msg }
         ensures put { PutOrBack result msg self.old self.new }
@@ -107,10 +107,10 @@ impl Tx {
         Offer::Done
     }
 
-    /// Puts as many of these messages, the next ones of the link's list, as there is room for, in order, and says how many: the
-    /// receiver sees them all at once. Looks at the receiver's word once, or not at all where an earlier look showed room for
-    /// all of them; so where fewer were put, the link was full as of this call. An empty run looks once, and puts nothing. Never
-    /// waits, and takes no memory.
+    /// Puts as many of these messages, the next ones of the link's list, as there is room for, in order, and
+    /// says how many: the receiver sees them all at once. Looks at the receiver's word once, or not at all
+    /// where an earlier look showed room for all of them; so where fewer were put, the link was full as of
+    /// this call. An empty run looks once, and puts nothing. Never waits, and takes no memory.
     pub fn offer_run(&mut self, msgs: &[Msg]) -> usize
         requires { AreNextToPut self.old msgs.now }
         ensures within { result ≤ length msgs.now }
@@ -132,10 +132,10 @@ impl Tx {
         self.side.sees_gone(ring)
     }
 
-    /// Puts the next message of the link's list. Waits while the link is full and the receiver is there; a link with room
-    /// takes the message also where the receiver has left. `Gone` hands the message back: nothing was put. The link was full at
-    /// one look, and the receiver had left at the next; what it took between the two has made room, which an `offer` reports.
-    /// Takes no memory.
+    /// Puts the next message of the link's list. Waits while the link is full and the receiver is there; a
+    /// link with room takes the message also where the receiver has left. `Gone` hands the message back:
+    /// nothing was put. The link was full at one look, and the receiver had left at the next; what it took
+    /// between the two has made room, which an `offer` reports. Takes no memory.
     pub fn put<R: Wait>(&mut self, rt: &R, msg: Msg) -> Result<(), PutError>
         requires { IsNextToPut self.old msg }
         ensures put { IfOk result (λ _. HasPut msg self.old self.new) }
@@ -160,8 +160,8 @@ impl Tx {
         unreachable!()
     }
 
-    /// How many messages were put, how many found the link full, and how many were in it at most, by this end's looks. Takes no
-    /// memory.
+    /// How many messages were put, how many found the link full, and how many were in it at most, by this
+    /// end's looks. Takes no memory.
     pub fn tally(&self) -> Tally
         ensures passed { result.passed ≡ length self.now.put }
         ensures waited { result.waited ≡ self.now.counts.waited }
@@ -200,7 +200,8 @@ impl Tx {
         let _side = &self.side;
     }
 
-    /// Ends the use of this end, as dropping it does: the receiver's `gone` is true from then on. Takes no memory.
+    /// Ends the use of this end, as dropping it does: the receiver's `gone` is true from then on. Takes no
+    /// memory.
     pub fn leave(self) {}
 }
 

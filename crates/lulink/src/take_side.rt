@@ -1,5 +1,5 @@
-//! The consumer's side of a ring. Between two calls it may already have the slots of its next messages, so that it needs no look
-//! at the producer's word as long as the one that it loaded last shows a message.
+//! The consumer's side of a ring. Between two calls it may already have the slots of its next messages, so
+//! that it needs no look at the producer's word as long as the one that it loaded last shows a message.
 
 ghost use Rattle.std.specs.Prelude.{◌≡◌, ℕ, ◌+◌, ◌-◌, ◌<◌, ◌≤◌, ◌%◌, [], ◌∷◌, ◌++◌, length, take, drop, Option, Some, None, slice_get, vec_capacity};
 ghost use Rattle.atomic_table.specs.Table.{rest};

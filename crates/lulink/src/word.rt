@@ -8,8 +8,8 @@ use std::{hint, thread};
 /// Which of the ring's words counts what was put.
 pub(crate) const TAIL: usize = 0;
 
-/// Which of the ring's words counts what was taken. The words between the two are unused: they keep the two in different
-/// lines of memory, of 64 bytes or of 128.
+/// Which of the ring's words counts what was taken. The words between the two are unused: they keep the two
+/// in different lines of memory, of 64 bytes or of 128.
 pub(crate) const HEAD: usize = 16;
 
 /// The bit by which a word says that its end has left.
@@ -18,7 +18,8 @@ pub(crate) const TOP: u64 = 1 << 63;
 /// How often a call looks again before it lets other threads run.
 const LOOKS: u32 = 6;
 
-/// How long a call spins between two looks: so long that some messages pass meanwhile, which then cost one look together.
+/// How long a call spins between two looks: so long that some messages pass meanwhile, which then cost one
+/// look together.
 const SPINS: u32 = 24;
 
 /// Whether the end whose word this is has left.

@@ -19,8 +19,8 @@ use std::alloc::{AllocError, Global};
 use std::marker::Model;
 use std::snapshot::Snapshot;
 
-/// One site's part of a plan, gone through once an instant: its flows in order with their lines, its links, and which flows it reports. A
-/// contract sees the plan and the site.
+/// One site's part of a plan, gone through once an instant: its flows in order with their lines, its links,
+/// and which flows it reports. A contract sees the plan and the site.
 pub struct ListCode {
     plan: Snapshot<Plan>,
     site: u8,
@@ -33,7 +33,8 @@ pub struct ListCode {
     noted: Vec<usize>,
     /// The sending ends in order of their flows.
     queue: Vec<usize>,
-    /// By number of a flow, the receiving end that brings it, and behind which flow those end that can be worked out at once with it.
+    /// By number of a flow, the receiving end that brings it, and behind which flow those end that can be
+    /// worked out at once with it.
     row_sources: Vec<usize>,
     row_runs: Vec<usize>,
 }
@@ -88,7 +89,8 @@ fn taken_marks(alloc: Global, plan: &Plan, site: u8) -> Result<Vec<bool>, AllocE
 }
 
 impl ListCode {
-    /// A site's part of a plan. None where the site has no order in which what a flow reads at its own instant comes before it.
+    /// A site's part of a plan. None where the site has no order in which what a flow reads at its own
+    /// instant comes before it.
     ///
     /// # Errors
     ///
@@ -126,8 +128,8 @@ impl ListCode {
         }))
     }
 
-    /// The site before its first instant, from the unused ends of its links. None where these aren't the ends that the site's part of the
-    /// plan names, in the same order.
+    /// The site before its first instant, from the unused ends of its links. None where these aren't the ends
+    /// that the site's part of the plan names, in the same order.
     ///
     /// # Errors
     ///

@@ -7,7 +7,8 @@ use luflow::{Body, Datum, Msg};
 use lulink::{Offer, Rx, Tx};
 use luworld::Turn;
 
-/// The receiving end of a link, the number of the flow that it brings, and the messages of how many instants it has taken.
+/// The receiving end of a link, the number of the flow that it brings, and the messages of how many instants
+/// it has taken.
 #[derive(Drop)]
 pub struct Source {
     pub rx: Rx,
@@ -17,8 +18,8 @@ pub struct Source {
     pub closed: bool,
 }
 
-/// The sending end of a link, the number of the flow that it sends, the messages of how many instants it has put, and the number of the
-/// next.
+/// The sending end of a link, the number of the flow that it sends, the messages of how many instants it has
+/// put, and the number of the next.
 #[derive(Drop)]
 pub struct Outlet {
     pub tx: Tx,
@@ -56,7 +57,8 @@ fn look(rx: &mut Rx) -> Came
     }
 }
 
-/// Takes the next message of a link, if it is there, once more where its sender has left, since all that it put was there before.
+/// Takes the next message of a link, if it is there, once more where its sender has left, since all that it
+/// put was there before.
 pub fn take_one(rx: &mut Rx) -> Came
     ensures { HasCome result rx.old rx.new }
 {

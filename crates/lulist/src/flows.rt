@@ -13,7 +13,8 @@ pub struct OrderedFlows {
     pub numbers: Vec<u16>,
     /// The numbers of the flows whose last values are kept.
     pub kept: Vec<usize>,
-    /// How many of the first flows are constants of the base clock. They are worked out at the first instant alone.
+    /// How many of the first flows are constants of the base clock. They are worked out at the first instant
+    /// alone.
     pub fixed: usize,
     /// Of each main output, in order of declaration, the number of its flow where the site is its home.
     pub reported: Vec<Option<usize>>,

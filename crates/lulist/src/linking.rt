@@ -108,8 +108,8 @@ fn sent_marks(alloc: Global, count: usize, sent: &[ListLink]) -> Result<Vec<bool
     Ok(marks)
 }
 
-/// By number of a flow, behind which flow those end that can be worked out at once with it: all between are worked out here, and none but
-/// the last is sent.
+/// By number of a flow, behind which flow those end that can be worked out at once with it: all between are
+/// worked out here, and none but the last is sent.
 ///
 /// # Errors
 ///

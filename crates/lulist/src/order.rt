@@ -1,7 +1,8 @@
-//! The order in which a site goes through its flows: first the constants of the base clock; then those that it computes in order of rank,
-//! and those that links bring as late as may be, just before the first that reads them at its own instant, or behind all. Between two that
-//! links bring, those that it computes stand together by clock, as far as what they read allows. Nothing is promised of it: whoever uses it
-//! looks whether what is read comes first.
+//! The order in which a site goes through its flows: first the constants of the base clock; then those that
+//! it computes in order of rank, and those that links bring as late as may be, just before the first that
+//! reads them at its own instant, or behind all. Between two that links bring, those that it computes stand
+//! together by clock, as far as what they read allows. Nothing is promised of it: whoever uses it looks
+//! whether what is read comes first.
 
 use luflow::{Clock, Flat, Flow, Form};
 use std::alloc::{AllocError, Global};
@@ -95,7 +96,8 @@ fn is_fixed(flow: &Flow) -> bool {
 /// How many of the last rounds may take another flow.
 const NEAR: usize = 64;
 
-/// The rounds in which an order goes through its flows: those of one round have one clock, or a link brings the only one.
+/// The rounds in which an order goes through its flows: those of one round have one clock, or a link brings
+/// the only one.
 #[derive(Drop)]
 struct Rounds {
     clocks: Vec<Clock>,
@@ -151,7 +153,8 @@ impl Rounds {
         least
     }
 
-    /// Puts a flow that is computed here into the first round of its clock in which it can be, or into a new one.
+    /// Puts a flow that is computed here into the first round of its clock in which it can be, or into a new
+    /// one.
     fn put_own(
         &mut self,
         flat: &Flat,
@@ -182,7 +185,8 @@ impl Rounds {
     }
 }
 
-/// Puts constants of the base clock first, and flows of one clock together that stand between two that links bring.
+/// Puts constants of the base clock first, and flows of one clock together that stand between two that links
+/// bring.
 fn group(
     alloc: Global,
     flat: &Flat,

@@ -71,8 +71,8 @@ fn is_at(numbers: &[usize], n: usize, number: usize) -> bool
     }
 }
 
-/// A row for each of these outputs: the log of its flow where it has a number, else an empty one. None where the logs aren't those of
-/// these numbers.
+/// A row for each of these outputs: the log of its flow where it has a number, else an empty one. None where
+/// the logs aren't those of these numbers.
 pub fn output_rows(
     alloc: Global,
     reported: &[Option<usize>],

@@ -12,7 +12,8 @@ use crate::site::{ListSite, datum_of};
 use luflow::{Body, Msg};
 use luworld::Turn;
 
-/// Puts the next message of a sending end, if there is room; then it has put those of all instants before the next one.
+/// Puts the next message of a sending end, if there is room; then it has put those of all instants before the
+/// next one.
 #[inline(always)]
 fn put_to(outlet: &mut Outlet, msg: Msg, next: u32, number: u32) -> Turn
     requires next { IsNextToPut outlet.old.tx msg }
@@ -63,8 +64,8 @@ fn close_at(outlets: &mut Vec<Outlet>, e: usize)
 }
 
 impl ListSite {
-    /// Puts the message of a sending end, if its flow is present, which has been worked out. It is over where the receiver has left a full
-    /// link.
+    /// Puts the message of a sending end, if its flow is present, which has been worked out. It is over where
+    /// the receiver has left a full link.
     pub fn put_step(&mut self, e: usize) -> Turn
         requires going { IsListing self.old }
         requires early { self.old.t < self.old.inputs.job.inputs.instants }

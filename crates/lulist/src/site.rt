@@ -25,10 +25,12 @@ pub struct ListSite {
     pub logs: Vec<Vec<Status>>,
     /// The sending ends in order of their flows.
     pub queue: Vec<usize>,
-    /// By number of a flow, the receiving end that brings it, and behind which flow those end that can be worked out at once with it.
+    /// By number of a flow, the receiving end that brings it, and behind which flow those end that can be
+    /// worked out at once with it.
     pub row_sources: Vec<usize>,
     pub row_runs: Vec<usize>,
-    /// The instant, the number of the flow at hand, and how many sending ends of the queue have put their message.
+    /// The instant, the number of the flow at hand, and how many sending ends of the queue have put their
+    /// message.
     pub t: u32,
     pub at: usize,
     pub out: usize,

@@ -28,7 +28,8 @@ fn source_of(link: ListLink, rx: Rx) -> Option<Source>
     })
 }
 
-/// The receiving ends of these links before the first instant. None where they aren't those, in the same order.
+/// The receiving ends of these links before the first instant. None where they aren't those, in the same
+/// order.
 ///
 /// # Errors
 ///

@@ -18,8 +18,8 @@ use std::marker::Model;
 /// How many steps a station does before another one has its turn.
 const STEPS: u32 = 4096;
 
-/// A site that goes through its flows once an instant, and the ends of its links. A contract sees its job and its site. One that is dropped
-/// leaves its ends.
+/// A site that goes through its flows once an instant, and the ends of its links. A contract sees its job and
+/// its site. One that is dropped leaves its ends.
 pub struct ListStation {
     alloc: Global,
     inner: ListSite,
@@ -62,8 +62,9 @@ fn is_over(turn: Turn) -> bool
 }
 
 impl ListStation {
-    /// A new station of a site of a run, from the site's part of the plan, its own inputs, and the unused ends of its links. None where
-    /// these aren't the ends that its part of the plan names, in the same order.
+    /// A new station of a site of a run, from the site's part of the plan, its own inputs, and the unused
+    /// ends of its links. None where these aren't the ends that its part of the plan names, in the same
+    /// order.
     ///
     /// # Errors
     ///
@@ -104,7 +105,8 @@ impl ListStation {
         self.inner.inputs.site()
     }
 
-    /// The instant at which the site stands, from 0; behind the last one the number of instants. Takes no memory.
+    /// The instant at which the site stands, from 0; behind the last one the number of instants. Takes no
+    /// memory.
     pub fn instant(&self) -> u32 {
         self.inner.t
     }
@@ -117,8 +119,8 @@ impl ListStation {
             .saturating_add(self.inner.sources.len())
     }
 
-    /// What the end of this place has counted, from 0 on: first the sending ends, then the receiving ones. None where there is no
-    /// such end. Takes no memory.
+    /// What the end of this place has counted, from 0 on: first the sending ends, then the receiving ones.
+    /// None where there is no such end. Takes no memory.
     pub fn end(&self, place: usize) -> Option<EndTally>
         ensures { IfSome result (λ e. e.tally.waited ≤ e.tally.passed + 1) }
     {
@@ -144,7 +146,8 @@ impl ListStation {
         turn
     }
 
-    /// Goes on until a link is empty or full, or the site is over, or it has done many steps. Never waits, and takes no memory.
+    /// Goes on until a link is empty or full, or the site is over, or it has done many steps. Never waits,
+    /// and takes no memory.
     pub fn go(&mut self) -> Turn
         ensures { self.new ≡ self.old }
     {
@@ -167,8 +170,8 @@ impl ListStation {
         Turn::Moved
     }
 
-    /// A row for each main output, in order of declaration: its statuses where the site is its home, moved and not copied, and nothing
-    /// elsewhere. None where the site hasn't ended. The ends are left.
+    /// A row for each main output, in order of declaration: its statuses where the site is its home, moved
+    /// and not copied, and nothing elsewhere. None where the site hasn't ended. The ends are left.
     pub fn outputs(self) -> Option<Vec<Vec<Status>>>
         ensures sound { IfSome result (λ _. IsSoundAt self.job self.site) }
         ensures whole { IfSome result

@@ -11,7 +11,8 @@ use crate::site::{ListSite, number_at, show};
 use lueval_lines::{Cell, cell_of, is_on};
 use luworld::Turn;
 
-/// Takes the next message of a receiving end, if it is there; then it has those of all instants before the next one.
+/// Takes the next message of a receiving end, if it is there; then it has those of all instants before the
+/// next one.
 #[inline(always)]
 fn take_from(source: &mut Source, next: u32) -> Came
     ensures { HasComeTo next result source.old source.new }
@@ -55,7 +56,8 @@ fn close_at(sources: &mut Vec<Source>, e: usize)
 }
 
 impl ListSite {
-    /// Takes the message of the flow at hand, which a link brings, if it is present. It is over where the link has none any more.
+    /// Takes the message of the flow at hand, which a link brings, if it is present. It is over where the
+    /// link has none any more.
     pub fn take_row(&mut self) -> Turn
         requires going { IsListing self.old }
         requires early { self.old.t < self.old.inputs.job.inputs.instants }

@@ -26,7 +26,8 @@ fn are_small(plan: &Plan) -> bool
     (0..count).all(|site| is_small(plan, site))
 }
 
-/// How many workers are likely to be quickest for a plan whose sites go by lists: one for all where each is small, else one for each.
+/// How many workers are likely to be quickest for a plan whose sites go by lists: one for all where each is
+/// small, else one for each.
 pub fn quickest_crew(plan: &Plan) -> u8
     ensures is { result ≡ quickest_crew plan.now }
     ensures some { 0 < result }

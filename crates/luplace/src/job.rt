@@ -40,8 +40,8 @@ impl Model for Job {
     ghost invariant = { λ a. IsJobView (record { plan = a.plan; inputs = a.inputs }) };
 }
 
-/// The number of instants and the columns of the main inputs that stand at one site, and no other data. It keeps, for
-/// contracts alone, which job and site it is of.
+/// The number of instants and the columns of the main inputs that stand at one site, and no other data. It
+/// keeps, for contracts alone, which job and site it is of.
 pub struct SiteInputs {
     site: u8,
     instants: u32,
@@ -171,7 +171,8 @@ impl SiteInputs {
         (columns, job)
     }
 
-    /// The value at an instant of the main input of this number, where that input stands at the site; nothing of any other.
+    /// The value at an instant of the main input of this number, where that input stands at the site; nothing
+    /// of any other.
     pub fn given(&self, column: usize, instant: u32) -> Option<Datum>
         ensures own { stands self.now.job.plan column self.now.site ≡ true → result
             ≡ slice_get (column_of self.now.job.inputs column) instant }
@@ -226,7 +227,8 @@ fn columns_of(
 }
 
 impl Job {
-    /// What a site is handed: the number of instants, and the columns of the main inputs that stand at the site.
+    /// What a site is handed: the number of instants, and the columns of the main inputs that stand at the
+    /// site.
     pub fn inputs_at(&self, alloc: Global, site: u8) -> Result<SiteInputs, AllocError>
         requires { site < sites_of self.now.plan }
         ensures { IfOk result (λ x. x ≡ record { job = self.now; site = site }) }

@@ -4,7 +4,8 @@
 //! - [`Plan`]: where flows stand, what each site needs, and the links that follow.
 //! - [`Job`], [`SiteInputs`]: one run, and what of it a site is handed.
 //! - [`way_of`], [`Way`]: whether a run of a plan goes by rows, and why it doesn't.
-//! - [`least_nils`], [`class_in`]: which flows may be nil where their clock is first true: the least classes of initialisation.
+//! - [`least_nils`], [`class_in`]: which flows may be nil where their clock is first true: the least classes
+//!   of initialisation.
 //! - [`quickest_crew`]: how many workers are likely to be quickest by lists.
 //! - [`laws`]: worked placements; a plan has one way.
 #![tactic(auto)]

@@ -11,7 +11,8 @@ use lubase::{Row, number_at};
 use luflow::{Clock, Flat, Flow, Form};
 use std::alloc::{AllocError, Global};
 
-/// Whether a flow stands at a site, given for each flow its main variable and for each main variable its sites.
+/// Whether a flow stands at a site, given for each flow its main variable and for each main variable its
+/// sites.
 pub fn stands_at(owners: &[usize], placed: &[Row<u8>], place: usize, site: u8) -> bool
     ensures { result ≡ is_in site (sites_at owners.now placed.now place) }
 {
@@ -131,8 +132,8 @@ fn own_marks(
     Ok(marks)
 }
 
-/// The marks of what a site needs. A clock variable has a lower rank than the flows on its clock, so one pass down the
-/// ranks finds the clock variables of all that is marked.
+/// The marks of what a site needs. A clock variable has a lower rank than the flows on its clock, so one pass
+/// down the ranks finds the clock variables of all that is marked.
 fn site_marks(
     alloc: Global,
     flat: &Flat,

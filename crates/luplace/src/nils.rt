@@ -59,7 +59,8 @@ fn look_at(nils: &mut Vec<bool>, flat: &Flat, p: usize)
     }
 }
 
-/// The least classes that meet the rules of initialisation: true of the flows that must have it. The time grows with the number of reads.
+/// The least classes that meet the rules of initialisation: true of the flows that must have it. The time
+/// grows with the number of reads.
 ///
 /// # Errors
 ///

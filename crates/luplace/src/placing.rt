@@ -73,7 +73,8 @@ fn are_together(owners: &[usize], rows: &[Row<u8>]) -> bool
     (0..rows.len()).all(|v| is_same(row_at(rows, number_at(owners, v)), row_at(rows, v)))
 }
 
-/// The sites of each main variable, or the refusal of the placement. Its work grows with the variables and the entries.
+/// The sites of each main variable, or the refusal of the placement. Its work grows with the variables and
+/// the entries.
 pub fn placed_by(alloc: Global, flat: &Flat, place: &Place) -> Result<Vec<Row<u8>>, PlaceError>
     ensures accepted { IfOk result (λ _. refusal flat.now place.now ≡ None) }
     ensures rows { IfOk result (λ rows. rows.items ≡ placed_by flat.now.variables place.now) }

@@ -21,8 +21,8 @@ use std::alloc::{AllocError, Global};
 use std::marker::Model;
 use std::sync::Arc;
 
-/// A plan: a flat program, its sites, where its main variables stand, and the links that follow. A contract sees the
-/// `PlanView` of `luworld`.
+/// A plan: a flat program, its sites, where its main variables stand, and the links that follow. A contract
+/// sees the `PlanView` of `luworld`.
 pub struct Plan {
     flat: Arc<Flat>,
     names: Row<Name>,
@@ -113,10 +113,11 @@ fn what_follows(
 }
 
 impl Plan {
-    /// The plan of a program and a placement as it was read: the program's main variables at the sites that the placement
-    /// puts them at, and what follows: a variable with several sites is computed, or read, at each of them. A placement is refused for the first of
-    /// these: `UnknownVariable` where it places what is no main variable, `Unplaced` where a main variable has no site, `SplitCall` where the
-    /// variables of one equation stand at different sites. `OutOfMemory` may come in place of any answer.
+    /// The plan of a program and a placement as it was read: the program's main variables at the sites that
+    /// the placement puts them at, and what follows: a variable with several sites is computed, or read, at
+    /// each of them. A placement is refused for the first of these: `UnknownVariable` where it places what is
+    /// no main variable, `Unplaced` where a main variable has no site, `SplitCall` where the variables of one
+    /// equation stand at different sites. `OutOfMemory` may come in place of any answer.
     pub fn make(alloc: Global, flat: Flat, place: &Place) -> Result<Plan, PlaceError>
         ensures made { IfOk result (IsPlanOf flat place.now) }
         ensures refused { IfErr result (λ e. (e ≡ PlaceError.OutOfMemory)
@@ -246,8 +247,8 @@ impl Plan {
         (0..count).filter(|i| self.stands(*i, site)).count()
     }
 
-    /// The places of the flows that a site needs, in order: all that its flows name, and the variables of their clocks.
-    /// Takes no memory.
+    /// The places of the flows that a site needs, in order: all that its flows name, and the variables of
+    /// their clocks. Takes no memory.
     pub fn needs(&self, site: u8) -> &[usize]
         requires { site < sites_of self.now }
         ensures { result.now ≡ row self.now.needs site }

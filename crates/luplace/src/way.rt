@@ -15,10 +15,11 @@ use std::alloc::{AllocError, Global};
 pub enum Way {
     /// By rows: each site works in blocks of instants.
     Rows,
-    /// Item by item, since some cycle is parted over sites: the main variables on such cycles, in order of place.
+    /// Item by item, since some cycle is parted over sites: the main variables on such cycles, in order of
+    /// place.
     Parted(Row<usize>),
-    /// Item by item, since a link carries what may have no value at first: the main variables that are sent and may be nil, in order of place. No
-    /// cycle is parted then.
+    /// Item by item, since a link carries what may have no value at first: the main variables that are sent
+    /// and may be nil, in order of place. No cycle is parted then.
     Nil(Row<usize>),
 }
 
@@ -97,8 +98,9 @@ fn nils_of(alloc: Global, plan: &Plan) -> Result<Vec<usize>, AllocError>
     Ok(marked(alloc, marks.as_slice(), 0, variables)?)
 }
 
-/// The way of a plan's runs: by rows where no cycle of flows is parted over sites and no flow that a link carries may be nil at first, and else which
-/// main variables are in the way. The time grows with the number of reads and links.
+/// The way of a plan's runs: by rows where no cycle of flows is parted over sites and no flow that a link
+/// carries may be nil at first, and else which main variables are in the way. The time grows with the number
+/// of reads and links.
 ///
 /// # Errors
 ///

@@ -12,8 +12,8 @@ ghost use Rattle.luplace_file.specs.Draft.{draft_at, draft_of};
 use crate::choice::{Version, choice_in, version_of};
 use crate::error::PlaceError;
 use crate::spelling::{is_key, is_site_name};
-use lubase::{Name, Row};
 use lubase::limits::USUAL_CAPACITY;
+use lubase::{Name, Row};
 use std::alloc::Global;
 use toml::{Table, Value};
 

@@ -12,8 +12,8 @@ use thiserror::Error;
 pub enum PlaceError {
     /// The text is no TOML, a key that stands twice among it.
     NotToml,
-    /// A key that a placement doesn't have, a missing `sites`, a value of the wrong kind, or a text in `sites` that is no
-    /// site name.
+    /// A key that a placement doesn't have, a missing `sites`, a value of the wrong kind, or a text in
+    /// `sites` that is no site name.
     BadKey,
     /// A variable is placed at a site that isn't one of `sites`.
     UnknownSite,

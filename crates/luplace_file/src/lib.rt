@@ -1,10 +1,10 @@
-//! The placement file: which sites there are, how much each link between them holds, and at which sites the variables of
-//! the main node stand.
+//! The placement file: which sites there are, how much each link between them holds, and at which sites the
+//! variables of the main node stand.
 //!
-//! - [`read_place`] reads the text of such a file, of version 1 or 2, into a [`Place`], or refuses it by the first rule that
-//!   it breaks.
-//! - [`PlaceError`] has every refusal of a placement. Those that need the program too, as an unknown variable, come from
-//!   the plan.
+//! - [`read_place`] reads the text of such a file, of version 1 or 2, into a [`Place`], or refuses it by the
+//!   first rule that it breaks.
+//! - [`PlaceError`] has every refusal of a placement. Those that need the program too, as an unknown
+//!   variable, come from the plan.
 //! - [`laws`]: worked files.
 #![tactic(auto)]
 

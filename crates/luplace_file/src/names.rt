@@ -5,8 +5,8 @@ ghost use Rattle.lubase.specs.Places.{first_place};
 ghost use Rattle.lubase.specs.Limits.{most_sites};
 ghost use Rattle.luplace_file.specs.Rules.{is_among, all_differ, are_sites, numbers_of};
 
-use lubase::{Name, Places, Row};
 use lubase::limits::MOST_SITES;
+use lubase::{Name, Places, Row};
 use std::alloc::{AllocError, Global};
 
 /// Whether a name is one of these. Takes no memory.

@@ -24,8 +24,8 @@ impl Drop for Placed {
     }
 }
 
-/// What a placement file says. A contract sees the `PlaceView` of `specs/Content.antt`, which keeps the rules of
-/// `specs/Lawful.antt`.
+/// What a placement file says. A contract sees the `PlaceView` of `specs/Content.antt`, which keeps the rules
+/// of `specs/Lawful.antt`.
 pub struct Place {
     names: Row<Name>,
     default: Row<u8>,
@@ -95,7 +95,8 @@ impl Place {
         self.names.as_slice()
     }
 
-    /// The sites of the variables that have no entry, by number, in order. Empty where the file gives no default.
+    /// The sites of the variables that have no entry, by number, in order. Empty where the file gives no
+    /// default.
     pub fn default_sites(&self) -> &[u8]
         ensures { result.now ≡ self.now.default }
     {

@@ -12,8 +12,8 @@ use crate::draft::{Draft, Wanted};
 use crate::error::PlaceError;
 use crate::names::{all_differ, are_sites, numbers_of};
 use crate::place::{Place, Placed};
-use lubase::{Name, Row};
 use lubase::limits::{MOST_CAPACITY, MOST_SITES};
+use lubase::{Name, Row};
 use std::alloc::{AllocError, Global};
 
 fn is_known(version: Version) -> bool

@@ -118,8 +118,8 @@ fn put_lines(text: &mut String, widths: &[usize], rows: &[Row<Name>]) -> Result<
     Ok(())
 }
 
-/// Adds a table: a line for each row, its columns as wide as their longest cells. The time grows with the length of what is added, and the number of
-/// cells.
+/// Adds a table: a line for each row, its columns as wide as their longest cells. The time grows with the
+/// length of what is added, and the number of cells.
 ///
 /// # Errors
 ///

@@ -113,7 +113,8 @@ fn clocked(plan: &Plan, site: u8, variable: usize) -> Option<usize>
     (0..plan.flat().flows().len()).find(|place| is_clocked(plan, site, variable, *place))
 }
 
-/// Why the receiving site of a link needs the link's variable. Takes no memory; the time grows with the number of flows.
+/// Why the receiving site of a link needs the link's variable. Takes no memory; the time grows with the
+/// number of flows.
 pub fn cause_of(plan: &Plan, link: Link) -> Option<Cause>
     ensures { result ≡ cause_of plan.now link }
 {

@@ -130,11 +130,12 @@ fn put_edges(text: &mut String, plan: &Plan) -> Result<(), AllocError>
     Ok(())
 }
 
-/// The report of a plan as a graph in the language of Graphviz: a box for each site, in it a node for each main variable that
-/// stands there and a point for the site itself; for each link an edge, from its variable in the sending site's box to the main
-/// variable in whose equation its first reader stands, in the receiving site's box, or to that site's point where the variable
-/// crosses for the sake of a clock alone. An edge is labelled with its variable and the variable's clock. Names are identifiers, so
-/// they need no escapes between quotes. The time grows with the number of flows times the number of links.
+/// The report of a plan as a graph in the language of Graphviz: a box for each site, in it a node for each
+/// main variable that stands there and a point for the site itself; for each link an edge, from its variable
+/// in the sending site's box to the main variable in whose equation its first reader stands, in the receiving
+/// site's box, or to that site's point where the variable crosses for the sake of a clock alone. An edge is
+/// labelled with its variable and the variable's clock. Names are identifiers, so they need no escapes
+/// between quotes. The time grows with the number of flows times the number of links.
 pub fn report_dot(alloc: Global, plan: &Plan) -> Result<String, AllocError>
     ensures { IfOk result (λ text. string_bytes text ≡ graph_text plan.now) }
 {

@@ -47,7 +47,8 @@ fn put_rows(text: &mut String, path: &str, plan: &Plan) -> Result<(), AllocError
     Ok(())
 }
 
-/// A line for each site of a plan at which no variable stands, in order of sites, behind the path of the placement.
+/// A line for each site of a plan at which no variable stands, in order of sites, behind the path of the
+/// placement.
 ///
 /// # Errors
 ///

@@ -153,10 +153,11 @@ fn report_value(alloc: Global, plan: &Plan) -> Result<Value, AllocError>
     Ok(Value::Object(members))
 }
 
-/// The report of a plan as compact JSON on one line, without a line feed: its capacity, its main variables in order of
-/// declaration, each with its clock, name, site and type, its links in order of number, each with its clock, its variable and
-/// the sites that send and receive, and the names of its sites. A clock is `c`, `not c`, `A(c)`, or the empty text for the base
-/// clock; the site of a variable that stands at several is an array of their names.
+/// The report of a plan as compact JSON on one line, without a line feed: its capacity, its main variables in
+/// order of declaration, each with its clock, name, site and type, its links in order of number, each with
+/// its clock, its variable and the sites that send and receive, and the names of its sites. A clock is `c`,
+/// `not c`, `A(c)`, or the empty text for the base clock; the site of a variable that stands at several is an
+/// array of their names.
 pub fn report_json(alloc: Global, plan: &Plan) -> Result<String, AllocError>
     ensures { IfOk result (λ text. string_bytes text ≡ report_text plan.now) }
 {

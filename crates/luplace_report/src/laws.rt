@@ -15,12 +15,14 @@ pub fn edge_law()
     ensures { EdgeLaw }
 {}
 
-/// At an instant a site does as many items as the table says at most, and exactly as many where all clocks are true then.
+/// At an instant a site does as many items as the table says at most, and exactly as many where all clocks
+/// are true then.
 pub fn items_law()
     ensures { ItemsLaw }
 {}
 
-/// Over a link one message passes at an instant at most, as the table says, and just one where the clock of its variable is true then.
+/// Over a link one message passes at an instant at most, as the table says, and just one where the clock of
+/// its variable is true then.
 pub fn messages_law()
     ensures { MessagesLaw }
 {}

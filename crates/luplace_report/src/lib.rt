@@ -1,10 +1,13 @@
 //! The report of a plan, as texts that are stated functions of the plan.
 //!
-//! - [`report_json`]: the report as JSON on one line; [`report_table`]: as tables for a terminal; [`report_dot`]: as a graph.
+//! - [`report_json`]: the report as JSON on one line; [`report_table`]: as tables for a terminal;
+//!   [`report_dot`]: as a graph.
 //! - [`report_idle`]: a line for each site at which nothing stands.
 //! - [`cause_of`], [`Cause`]: why a link is there.
-//! - [`laws`]: each link of a plan has a cause, each edge has both ends, a site's items are counted; worked reports.
-//! - `names`: how variables, sites, types and clocks are named; `way`: how the way of a plan is reported; `cycles`: sites that feed each other.
+//! - [`laws`]: each link of a plan has a cause, each edge has both ends, a site's items are counted; worked
+//!   reports.
+//! - `names`: how variables, sites, types and clocks are named; `way`: how the way of a plan is reported;
+//!   `cycles`: sites that feed each other.
 //! - `cells`, `aligned`: rows of cells, and tables whose columns are aligned.
 #![tactic(auto)]
 

@@ -110,7 +110,8 @@ fn put_clock_of(
     Ok(())
 }
 
-/// A link's number, its variable, the sites that send and receive, its clock, and how many messages pass at an instant at most.
+/// A link's number, its variable, the sites that send and receive, its clock, and how many messages pass at
+/// an instant at most.
 fn link_cells(
     alloc: Global,
     plan: &Plan,
@@ -320,12 +321,14 @@ fn text_of(alloc: Global, plan: &Plan, way: &Way, fed: &[Row<bool>]) -> Result<S
     Ok(text)
 }
 
-/// The report of a plan as four tables for a terminal, whose columns are as wide as their longest cells, with two blanks between two columns and an
-/// empty line between two tables: for each site how many flows stand there, and how many items it does at an instant at most, which is where all
-/// clocks are true (it computes its flows, takes a message from each link to it and puts one into each link from it); for each link its number, its
-/// variable, the sites that send and receive, its clock, `-` for the base clock, and how many messages pass at an instant at most; for each link why
-/// its variable crosses; and in which way a run goes, with a line for each group of sites that feed each other. The time grows with the number of
-/// flows times the number of links; the cells of one table at a time are in memory.
+/// The report of a plan as four tables for a terminal, whose columns are as wide as their longest cells, with
+/// two blanks between two columns and an empty line between two tables: for each site how many flows stand
+/// there, and how many items it does at an instant at most, which is where all clocks are true (it computes
+/// its flows, takes a message from each link to it and puts one into each link from it); for each link its
+/// number, its variable, the sites that send and receive, its clock, `-` for the base clock, and how many
+/// messages pass at an instant at most; for each link why its variable crosses; and in which way a run goes,
+/// with a line for each group of sites that feed each other. The time grows with the number of flows times
+/// the number of links; the cells of one table at a time are in memory.
 ///
 /// # Errors
 ///

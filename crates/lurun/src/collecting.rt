@@ -179,7 +179,8 @@ fn add_sites(
     Ok(())
 }
 
-/// The whole outputs of a job, from one report of each of its sites, all ended. `WrongReports` where there is no output.
+/// The whole outputs of a job, from one report of each of its sites, all ended. `WrongReports` where there is
+/// no output.
 fn outputs_of(alloc: Global, reports: Vec<SiteReport>) -> Result<Outputs, RunError>
     requires complete { (first : SiteView) → slice_get reports.items 0 ≡ Some first
         → are_complete (sites_of first.job.plan) reports.items ≡ true }
@@ -198,15 +199,15 @@ fn outputs_of(alloc: Global, reports: Vec<SiteReport>) -> Result<Outputs, RunErr
     }
 }
 
-/// The whole outputs of a job, from one report of each of its sites. Where the reports are of one job, the answer is the
-/// first of these that has a reason:
+/// The whole outputs of a job, from one report of each of its sites. Where the reports are of one job, the
+/// answer is the first of these that has a reason:
 ///
 /// # Errors
 ///
-/// [`RunError::WrongReports`] where the reports aren't one of each site, [`RunError::Fault`] of the faulted site of least
-/// number, [`RunError::LinkLost`] where a site was cut, [`RunError::WrongReports`] where the job has no output.
-/// [`RunError::OutOfMemory`] may come in place of any answer. The reports are gone: their statuses are moved into the answer, and
-/// not copied.
+/// [`RunError::WrongReports`] where the reports aren't one of each site, [`RunError::Fault`] of the faulted
+/// site of least number, [`RunError::LinkLost`] where a site was cut, [`RunError::WrongReports`] where the
+/// job has no output. [`RunError::OutOfMemory`] may come in place of any answer. The reports are gone: their
+/// statuses are moved into the answer, and not copied.
 pub fn collect(alloc: Global, reports: Vec<SiteReport>) -> Result<Outputs, RunError>
     ensures { (job : JobView) → AreReportsOfJob job reports.items → IsCollected job reports.items result }
 {

@@ -31,7 +31,8 @@ impl Promise<Vec<Report>> for ReportsOf {
 
 type Worker = PromisedHandle<Vec<Report>, ReportsOf>;
 
-/// Starts a worker. An error where the thread is refused: its stations are dropped then, and so their ends are left.
+/// Starts a worker. An error where the thread is refused: its stations are dropped then, and so their ends
+/// are left.
 fn start<'s, E, R: Wait + Clock + Sync, G: Gate>(
     scope: &Scope<'s, E>,
     rt: &'s R,
@@ -79,7 +80,8 @@ fn no_shares(alloc: Global, count: usize) -> Result<Vec<Vec<Served>>, AllocError
     Ok(shares)
 }
 
-/// The stations of each worker: worker i has the sites whose number leaves i, divided by the number of workers.
+/// The stations of each worker: worker i has the sites whose number leaves i, divided by the number of
+/// workers.
 fn deal(alloc: Global, stations: Vec<Station>, workers: u8) -> Result<Vec<Vec<Served>>, AllocError>
     requires { 0 < workers }
     ensures all { IfOk result (λ shares. IsPermutation stations.items (dealt shares.items)) }
@@ -132,7 +134,8 @@ fn shares_for(alloc: Global, stations: Vec<Station>, workers: u8) -> Result<Vec<
     new_shares(alloc, shares)
 }
 
-/// Starts a worker for each share, up to the first that is refused: false there, and the shares that are left are dropped.
+/// Starts a worker for each share, up to the first that is refused: false there, and the shares that are left
+/// are dropped.
 fn start_all<'s, E, R: Wait + Clock + Sync, G: Gate>(
     scope: &Scope<'s, E>,
     rt: &'s R,
@@ -181,8 +184,8 @@ fn join_all<R: Threads>(rt: &R, workers: Vec<Worker>, mut all: Vec<Report>) -> V
 ///
 /// # Errors
 ///
-/// [`RunError::NoThread`] where a thread was refused, whatever the others report; [`RunError::OutOfMemory`] where there is no room for all
-/// shares, workers and reports, and then none was started.
+/// [`RunError::NoThread`] where a thread was refused, whatever the others report; [`RunError::OutOfMemory`]
+/// where there is no room for all shares, workers and reports, and then none was started.
 pub fn reports_of<R: Threads + Wait + Clock + Sync, G: Gate>(
     rt: &R,
     alloc: Global,

@@ -18,15 +18,16 @@ use std::rt::Clock;
 use std::sync::Wait;
 use std::thread::Threads;
 
-/// Runs stations with a crew: worker i has the sites whose number leaves i, divided by the number of workers, and goes round
-/// them; without a site it isn't started. It is handed neither the job nor its inputs: messages pass by the stations' ends, and the answer
-/// is that of [`collect`] for the reports of all sites. Room for all workers and reports is made before the first worker starts. All started
-/// threads have been joined when it returns.
+/// Runs stations with a crew: worker i has the sites whose number leaves i, divided by the number of workers,
+/// and goes round them; without a site it isn't started. It is handed neither the job nor its inputs:
+/// messages pass by the stations' ends, and the answer is that of [`collect`] for the reports of all sites.
+/// Room for all workers and reports is made before the first worker starts. All started threads have been
+/// joined when it returns.
 ///
 /// # Errors
 ///
-/// [`RunError::NoThread`] where a thread was refused, whatever the others report; [`RunError::LinkLost`] where a site that goes by rows or by
-/// lists hasn't done its whole part; else those of [`collect`].
+/// [`RunError::NoThread`] where a thread was refused, whatever the others report; [`RunError::LinkLost`]
+/// where a site that goes by rows or by lists hasn't done its whole part; else those of [`collect`].
 pub fn run_crew<R: Threads + Wait + Clock + Sync, G: Gate>(
     rt: &R,
     alloc: Global,

@@ -4,8 +4,8 @@ use luflow::FaultKind;
 use std::alloc::AllocError;
 use thiserror::Error;
 
-/// Why a run has no outputs. Its text is the line that the program prints, but for the variable's number, where that line has
-/// the variable's name.
+/// Why a run has no outputs. Its text is the line that the program prints, but for the variable's number,
+/// where that line has the variable's name.
 #[derive(Clone, Copy, Debug, Drop, PartialEq, Eq, Error)]
 pub enum RunError {
     /// An operator has no value. The variable is the number of the main variable in whose equation it stands.

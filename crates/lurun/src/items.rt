@@ -80,8 +80,8 @@ impl ItemStation {
         self.txs.len().saturating_add(self.rxs.len())
     }
 
-    /// What the end of this place has counted, from 0 on: first the sending ends, then the receiving ones. None where there is no
-    /// such end. Takes no memory.
+    /// What the end of this place has counted, from 0 on: first the sending ends, then the receiving ones.
+    /// None where there is no such end. Takes no memory.
     pub fn end(&self, place: usize) -> Option<EndTally>
         ensures { IfSome result (λ e. e.tally.waited ≤ e.tally.passed + 1) }
     {
@@ -165,7 +165,8 @@ impl ItemStation {
         turn
     }
 
-    /// Does items until one is blocked, or the site is over, or it has done many. Never waits, and takes no memory.
+    /// Does items until one is blocked, or the site is over, or it has done many. Never waits, and takes no
+    /// memory.
     pub fn go<G: Gate>(&mut self, gate: &G) -> Turn
         ensures site { IsSameSite self.old.at self.new.at }
         ensures over { result ≡ Over → IsOver self.new.at self.new.txs self.new.rxs }

@@ -17,8 +17,8 @@ use std::rt::Clock;
 use std::sync::Wait;
 use std::thread::Threads;
 
-/// The outputs of a job whose sites go on like this; none where some site can't, or where not all sites have done their whole part, as at a
-/// fault.
+/// The outputs of a job whose sites go on like this; none where some site can't, or where not all sites have
+/// done their whole part, as at a fault.
 fn run_engine<R: Threads + Wait + Clock + Sync, G: Gate>(
     rt: &R,
     alloc: Global,
@@ -61,15 +61,16 @@ fn run_items<R: Threads + Wait + Clock + Sync, G: Gate>(
     run_crew(rt, alloc, stations, crew, gate)
 }
 
-/// Runs a job: its sites go on as is asked for, or as its plan allows, and are served by the workers that are asked for. Where that gives no
-/// outputs, as at a fault, the run begins anew item by item, which tells the fault. What serves a site is handed neither the job nor inputs
-/// of others. All started threads have been joined when it returns.
+/// Runs a job: its sites go on as is asked for, or as its plan allows, and are served by the workers that are
+/// asked for. Where that gives no outputs, as at a fault, the run begins anew item by item, which tells the
+/// fault. What serves a site is handed neither the job nor inputs of others. All started threads have been
+/// joined when it returns.
 ///
 /// # Errors
 ///
-/// [`RunError::Fault`] of a site that stopped at it; [`RunError::NoThread`] where a thread was refused; [`RunError::OutOfMemory`]
-/// where memory ran out; [`RunError::LinkLost`] where a site was left before its end; [`RunError::WrongReports`] where the
-/// main node has no output.
+/// [`RunError::Fault`] of a site that stopped at it; [`RunError::NoThread`] where a thread was refused;
+/// [`RunError::OutOfMemory`] where memory ran out; [`RunError::LinkLost`] where a site was left before its
+/// end; [`RunError::WrongReports`] where the main node has no output.
 pub fn run<R: Threads + Wait + Clock + Sync, G: Gate>(
     rt: &R,
     alloc: Global,

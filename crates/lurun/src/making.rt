@@ -125,8 +125,9 @@ fn station_of(
     }
 }
 
-/// The stations of a job whose sites go on like this, in order of sites: all links are open, with the plan's capacity, and each end is at
-/// its site. None where one of the sites can't go on so; each site can go item by item.
+/// The stations of a job whose sites go on like this, in order of sites: all links are open, with the plan's
+/// capacity, and each end is at its site. None where one of the sites can't go on so; each site can go item
+/// by item.
 ///
 /// # Errors
 ///
@@ -153,7 +154,8 @@ pub fn stations_by(
     Ok(Some(stations))
 }
 
-/// The stations of a job whose sites go item by item, in order of sites: all links, with the plan's capacity, and all sites, new.
+/// The stations of a job whose sites go item by item, in order of sites: all links, with the plan's capacity,
+/// and all sites, new.
 ///
 /// # Errors
 ///

@@ -12,7 +12,8 @@ use std::alloc::{AllocError, Global};
 pub enum Workers {
     /// One for each site.
     EachSite,
-    /// As many as are likely to be quickest: one for each site, or one for all where they go by lists and are small.
+    /// As many as are likely to be quickest: one for each site, or one for all where they go by lists and are
+    /// small.
     Auto,
     /// So many, 1 or more.
     Crew(u8),
@@ -26,7 +27,8 @@ pub struct Options {
     pub way: Option<Engine>,
 }
 
-/// How the sites of a plan go on: by rows where its way says so, else by lists. The way is that of [`way_of`], which plans tell.
+/// How the sites of a plan go on: by rows where its way says so, else by lists. The way is that of
+/// [`way_of`], which plans tell.
 ///
 /// # Errors
 ///

@@ -8,8 +8,8 @@ use lusite::SiteReport;
 use std::marker::Model;
 use std::snapshot::Snapshot;
 
-/// What a station leaves: the report of its site, where it went item by item, or has done its whole part. A contract sees which station it
-/// was.
+/// What a station leaves: the report of its site, where it went item by item, or has done its whole part. A
+/// contract sees which station it was.
 pub struct Report {
     of: Snapshot<Station>,
     left: Option<SiteReport>,

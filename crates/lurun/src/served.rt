@@ -146,8 +146,8 @@ fn go_round<G: Gate>(share: &mut Share, gate: &G) -> bool
     moved
 }
 
-/// A worker sleeps once rounds in a row that moved nothing have cost so much. A round ends with a yield, which costs 1, or where somebody
-/// else had the processor meanwhile, [`SLOW`].
+/// A worker sleeps once rounds in a row that moved nothing have cost so much. A round ends with a yield,
+/// which costs 1, or where somebody else had the processor meanwhile, [`SLOW`].
 const PATIENCE: u32 = 1000;
 
 /// What a yield costs in which somebody else had the processor.

@@ -34,7 +34,8 @@ impl Drop for Whole {
 }
 
 impl Whole {
-    /// The report of a site that leaves these rows of outputs; none where it leaves none, since it hasn't done its whole part.
+    /// The report of a site that leaves these rows of outputs; none where it leaves none, since it hasn't
+    /// done its whole part.
     pub fn left(self, site: u8, rows: Option<Vec<Vec<Status>>>) -> Option<SiteReport>
         requires of { IsWholeOf (record { job = self.job.value; site = site }) self }
         requires sound { IfSome rows (λ _. IsSoundAt self.job.value site) }

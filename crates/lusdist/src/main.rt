@@ -1,5 +1,5 @@
-//! The program `lusdist`: it checks one Lustre program, evaluates it, spreads it over several sites, runs them on threads, and
-//! replays a run turn by turn. What it does stands in the library `lusdist_answers`.
+//! The program `lusdist`: it checks one Lustre program, evaluates it, spreads it over several sites, runs
+//! them on threads, and replays a run turn by turn. What it does stands in the library `lusdist_answers`.
 #![tactic(auto)]
 
 use lusdist_answers::serve;

@@ -1,4 +1,5 @@
-//! What a check, an evaluation, the beginning of a design, a plan and a run give, of the files that they ask for.
+//! What a check, an evaluation, the beginning of a design, a plan and a run give, of the files that they ask
+//! for.
 
 ghost use Rattle.std.specs.Prelude.{◌≡◌, ◌<◌, length, IfOk, IfErr, None, string_bytes, option_map};
 ghost use Rattle.lutree.specs.Places.{places_view};
@@ -61,8 +62,8 @@ fn check_notes(
     of_warnings(alloc, request.program, bytes, program, &found)
 }
 
-/// What a check gives: the canonical text of the program, which keeps all rules and has a flat program, and its warnings, where they are
-/// asked for.
+/// What a check gives: the canonical text of the program, which keeps all rules and has a flat program, and
+/// its warnings, where they are asked for.
 pub fn check_answer<F: Files>(
     alloc: Global,
     request: CheckRequest<'_>,
@@ -79,8 +80,8 @@ pub fn check_answer<F: Files>(
     Ok(Reply::noted(text, notes))
 }
 
-/// The flat program and the inputs of the files that an evaluation asks for, and the variables that it shows. They are read and refused
-/// in the order of the words; the names that are observed come last.
+/// The flat program and the inputs of the files that an evaluation asks for, and the variables that it shows.
+/// They are read and refused in the order of the words; the names that are observed come last.
 fn posed<F: Files>(
     alloc: Global,
     request: EvalRequest<'_>,
@@ -103,8 +104,8 @@ fn posed<F: Files>(
     Ok((flat, inputs, list))
 }
 
-/// What the program and the table of an evaluation give: the variables that it shows, as a table or as a chart, their dump, and what is
-/// told of outputs that are observed.
+/// What the program and the table of an evaluation give: the variables that it shows, as a table or as a
+/// chart, their dump, and what is told of outputs that are observed.
 fn evaluated<F: Files>(alloc: Global, request: EvalRequest<'_>, files: &F) -> Result<Reply, Refusal>
     requires { mistake_in request ≡ None }
     ensures reply { IfOk result (IsReplyTo (F.gives files.now) (Request.Eval request.entry)) }
@@ -135,7 +136,8 @@ pub fn eval_answer<F: Files>(
     }
 }
 
-/// What a design begins with: a placement of all main variables at one site, or a table of inputs, where one is asked for.
+/// What a design begins with: a placement of all main variables at one site, or a table of inputs, where one
+/// is asked for.
 pub fn new_answer<F: Files>(
     alloc: Global,
     request: NewRequest<'_>,
@@ -159,8 +161,8 @@ fn plan_notes(alloc: Global, request: PlanRequest<'_>, plan: &Plan) -> Result<St
     report_idle(alloc, request.place, plan)
 }
 
-/// What a plan gives: where each variable stands, and all links, in the form that is asked for, and the sites at which nothing stands,
-/// where they are asked for.
+/// What a plan gives: where each variable stands, and all links, in the form that is asked for, and the sites
+/// at which nothing stands, where they are asked for.
 pub fn plan_answer<F: Files>(
     alloc: Global,
     request: PlanRequest<'_>,
@@ -175,8 +177,8 @@ pub fn plan_answer<F: Files>(
     Ok(Reply::noted(text, notes))
 }
 
-/// What a run gives: the table of the outputs of the program, which its sites gave together, their dump, and what is told of those that
-/// are observed.
+/// What a run gives: the table of the outputs of the program, which its sites gave together, their dump, and
+/// what is told of those that are observed.
 fn ran<R: Threads + Wait + Clock + Sync, F: Files, P: Progress>(
     rt: &R,
     alloc: Global,

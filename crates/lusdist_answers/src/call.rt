@@ -50,7 +50,8 @@ fn answer<R: Threads + Wait + Clock + Sync, F: Files, P: Progress>(
     }
 }
 
-/// The exit status of a call whose answer ended so when it was written, and of which an output that is observed is violated or not.
+/// The exit status of a call whose answer ended so when it was written, and of which an output that is
+/// observed is violated or not.
 fn printed_status(written: u8, violated: bool) -> u8
     ensures whole { written ≡ 0 → result ≡ status_beside violated }
     ensures part { written ≡ 3 → result ≡ 3 }
@@ -62,8 +63,8 @@ fn printed_status(written: u8, violated: bool) -> u8
     }
 }
 
-/// Writes an answer: its dump into the file that is asked for, its text, and its notes. Where the dump can't be written, that is
-/// reported in their place. Gives the exit status.
+/// Writes an answer: its dump into the file that is asked for, its text, and its notes. Where the dump can't
+/// be written, that is reported in their place. Gives the exit status.
 fn put_answer<F: Files, D: Dumps, W: Write, V: Write>(
     alloc: Global,
     request: Request<'_>,
@@ -96,8 +97,8 @@ fn put_answer<F: Files, D: Dumps, W: Write, V: Write>(
     }
 }
 
-/// Writes a refusal: the dump that it leaves into the file that is asked for, and its line. Where the dump can't be written, that is
-/// reported in place of the refusal. Gives the exit status.
+/// Writes a refusal: the dump that it leaves into the file that is asked for, and its line. Where the dump
+/// can't be written, that is reported in place of the refusal. Gives the exit status.
 fn put_stop<F: Files, D: Dumps, W, V: Write>(
     alloc: Global,
     request: Request<'_>,
@@ -163,8 +164,8 @@ fn put_line<V: Write>(stop: CallError, err: &mut Sink<V>) -> u8
     status
 }
 
-/// Does what the matches of the words ask for, unless its dump is refused, and gives the exit status. The words themselves aren't read
-/// again: they are what the contract speaks of.
+/// Does what the matches of the words ask for, unless its dump is refused, and gives the exit status. The
+/// words themselves aren't read again: they are what the contract speaks of.
 fn attend<R: Threads + Wait + Clock + Sync, F: Files, D: Dumps, P: Progress, W: Write, V: Write>(
     rt: &R,
     alloc: Global,
@@ -211,21 +212,24 @@ fn attend<R: Threads + Wait + Clock + Sync, F: Files, D: Dumps, P: Progress, W: 
     }
 }
 
-/// One call of the program, of which the first word is the program's name. Gives the exit status: 0 where it is done,
-/// also where a site of a replay faulted, and for help; 1 where a text is refused; 2 for a mistake in the words or a file that
-/// can't be read; 3 for a fault of an evaluation or a run, a run that was cut short, a lack of memory, output or a dump that can't be
-/// written, or an answer of which an output that is observed is false at some instant. A refusal is one line on the error stream, with its reason behind it where that is asked for, or of a check all faults; the
-/// turns of a replay and warnings go there too, where they are asked for, and behind them a line for each output that is observed and false:
-/// the answer is then printed as it is without. A run waits for its threads; the other commands wait for nobody.
+/// One call of the program, of which the first word is the program's name. Gives the exit status: 0 where it
+/// is done, also where a site of a replay faulted, and for help; 1 where a text is refused; 2 for a mistake
+/// in the words or a file that can't be read; 3 for a fault of an evaluation or a run, a run that was cut
+/// short, a lack of memory, output or a dump that can't be written, or an answer of which an output that is
+/// observed is false at some instant. A refusal is one line on the error stream, with its reason behind it
+/// where that is asked for, or of a check all faults; the turns of a replay and warnings go there too, where
+/// they are asked for, and behind them a line for each output that is observed and false: the answer is then
+/// printed as it is without. A run waits for its threads; the other commands wait for nobody.
 ///
-/// Where a dump is asked for, its file is written before the answer, by one write: of an evaluation that of the whole table, or, where it
-/// stops at a fault, of all instants before it; of a run that of the whole outputs, and none where it stops; of a replay that of the
-/// outputs as far as they were passed. Where it can't be written, that is reported in place of the answer or the fault. Nothing else is
-/// written. Before anything is read a dump that would take the place of a file of the call is refused, as a mistake in the words; and
-/// one that can't be written, as far as that is seen by then.
+/// Where a dump is asked for, its file is written before the answer, by one write: of an evaluation that of
+/// the whole table, or, where it stops at a fault, of all instants before it; of a run that of the whole
+/// outputs, and none where it stops; of a replay that of the outputs as far as they were passed. Where it
+/// can't be written, that is reported in place of the answer or the fault. Nothing else is written. Before
+/// anything is read a dump that would take the place of a file of the call is refused, as a mistake in the
+/// words; and one that can't be written, as far as that is seen by then.
 ///
-/// Where the progress of a run is asked for, the threads that serve the sites report it. It is handed the number
-/// of a site and an instant and nothing of the values; what it does with them isn't in the contract.
+/// Where the progress of a run is asked for, the threads that serve the sites report it. It is handed the
+/// number of a site and an instant and nothing of the values; what it does with them isn't in the contract.
 pub fn serve<R: Threads + Wait + Clock + Sync, F: Files, D: Dumps, P: Progress, W: Write, V: Write>(
     rt: &R,
     alloc: Global,
@@ -249,8 +253,8 @@ pub fn serve<R: Threads + Wait + Clock + Sync, F: Files, D: Dumps, P: Progress, 
           held_err = V.contents;
         }) }
 
-    // Where the command line takes the words and the call is done, the text that they ask for went to the output, and no output that is
-    // observed is violated.
+    // Where the command line takes the words and the call is done, the text that they ask for went to the
+    // output, and no output that is observed is violated.
     ensures done { takes lusdist (map string_bytes words.entry.now) ≡ true → result ≡ 0
         → (text : List ℕ) × IsDone (F.gives files.now) (map string_bytes words.entry.now) text
         × Appends (W.contents out.old.writer) (W.contents out.new.writer) text }
@@ -258,8 +262,9 @@ pub fn serve<R: Threads + Wait + Clock + Sync, F: Files, D: Dumps, P: Progress, 
     // Where a text or a file is refused, or the words are, nothing goes to the output.
     ensures refused { (result ≡ 1) ⊎ (result ≡ 2) → out.new ≡ out.old }
 
-    // Where a text is refused, it is for what the text says; and where words that the command line takes end with status 2, a
-    // file can't be read, no page has the code that is to be explained, or a dump would take the place of a file of the call.
+    // Where a text is refused, it is for what the text says; and where words that the command line takes end
+    // with status 2, a file can't be read, no page has the code that is to be explained, or a dump would take
+    // the place of a file of the call.
     ensures text { result ≡ 1 → IsRefusal (F.gives files.now) (map string_bytes words.entry.now) 1 }
     ensures file { takes lusdist (map string_bytes words.entry.now) ≡ true → result ≡ 2
         → IsRefusal (F.gives files.now) (map string_bytes words.entry.now) 2

@@ -96,7 +96,8 @@ fn listed_columns(
     deep_columns(alloc, flat, inputs, list)
 }
 
-/// The variables that a request asks for of a flat program at a table that fits it, as they are listed, or its first fault.
+/// The variables that a request asks for of a flat program at a table that fits it, as they are listed, or
+/// its first fault.
 fn columns_of(
     alloc: Global,
     request: EvalRequest<'_>,
@@ -254,7 +255,8 @@ fn wave_before(
     }
 }
 
-/// What a request asks for of columns of these types: a text, their dump, and what is told of outputs that are observed.
+/// What a request asks for of columns of these types: a text, their dump, and what is told of outputs that
+/// are observed.
 fn shown(
     alloc: Global,
     request: EvalRequest<'_>,
@@ -299,7 +301,8 @@ fn shown_list(
     shown(alloc, request, flat.types(), &kinds, columns)
 }
 
-/// The stop for the first fault, of this main variable at this instant, with the dump of the instants before it.
+/// The stop for the first fault, of this main variable at this instant, with the dump of the instants before
+/// it.
 fn faulted(
     alloc: Global,
     request: EvalRequest<'_>,
@@ -330,8 +333,9 @@ fn faulted(
     })
 }
 
-/// What a request asks for of a flat program and a table that fits it, as a text and a dump of listed variables, with what is told of
-/// outputs that are observed; or the first fault, with the dump of the instants before it.
+/// What a request asks for of a flat program and a table that fits it, as a text and a dump of listed
+/// variables, with what is told of outputs that are observed; or the first fault, with the dump of the
+/// instants before it.
 pub fn evaluation(
     alloc: Global,
     request: EvalRequest<'_>,

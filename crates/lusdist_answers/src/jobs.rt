@@ -15,7 +15,8 @@ use lusdist_call::{CallError, observe, read};
 use lusdist_shell::Files;
 use std::alloc::Global;
 
-/// The job of the program, the placement and the table at three paths, which are read and refused in this order.
+/// The job of the program, the placement and the table at three paths, which are read and refused in this
+/// order.
 pub fn job_for<F: Files>(
     alloc: Global,
     files: &F,

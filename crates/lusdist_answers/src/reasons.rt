@@ -17,8 +17,8 @@ use luexplain::{
     Explanation, SyntaxRefusal, all_refusals, of_cycle, of_fault, of_place, of_rule, of_schedule,
     of_size, of_syntax, of_table, of_unread, where_in,
 };
-use luinside::{Telling, ToldFault, told_fault};
 use luflow::{FaultKind, Flat, Inputs};
+use luinside::{Telling, ToldFault, told_fault};
 use luplace_file::PlaceError;
 use lusdist_call::{CallError, read};
 use lusdist_shell::{Files, ReadError, Request, ScheduleError, text_of};
@@ -275,7 +275,8 @@ fn of_turns<F: Files>(
     Ok(of_schedule(alloc, path, &text, error)?)
 }
 
-/// The reason of a stop; an error where no text is to blame, where its file can't be read again or isn't what it was, or where memory runs out.
+/// The reason of a stop; an error where no text is to blame, where its file can't be read again or isn't what
+/// it was, or where memory runs out.
 pub fn reason<F: Files>(
     alloc: Global,
     files: &F,
@@ -303,8 +304,8 @@ pub fn reason<F: Files>(
     }
 }
 
-/// All faults of the first stage that has any, of the program that a request names, which is read once more. An error where its file can't be
-/// read again or isn't what it was, or where memory runs out.
+/// All faults of the first stage that has any, of the program that a request names, which is read once more.
+/// An error where its file can't be read again or isn't what it was, or where memory runs out.
 pub fn faults_of<F: Files>(
     alloc: Global,
     files: &F,
@@ -323,8 +324,8 @@ pub fn faults_of<F: Files>(
     Ok(faults)
 }
 
-/// All refusals of the text that a request names, which is no program. It is read once more. An error where its file can't be read again or is
-/// a program now, or where memory runs out.
+/// All refusals of the text that a request names, which is no program. It is read once more. An error where
+/// its file can't be read again or is a program now, or where memory runs out.
 pub fn refusals_of<F: Files>(
     alloc: Global,
     files: &F,

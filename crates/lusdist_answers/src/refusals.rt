@@ -117,8 +117,8 @@ fn put_explained(text: &mut Vec<u8>, line: &str, reason: &Explanation) -> Result
     Ok(())
 }
 
-/// The reason of a stop, where the request asks for it. The texts are read once more. None where no text is to blame, where its file can't be
-/// read again, or where memory runs out.
+/// The reason of a stop, where the request asks for it. The texts are read once more. None where no text is
+/// to blame, where its file can't be read again, or where memory runs out.
 fn asked_reason<F: Files>(
     alloc: Global,
     files: &F,
@@ -262,7 +262,8 @@ fn put_places(
     Ok(())
 }
 
-/// All refusals of the text that a request names, which is no program, as they are told, and how many there are.
+/// All refusals of the text that a request names, which is no program, as they are told, and how many there
+/// are.
 fn places_text<F: Files>(
     alloc: Global,
     files: &F,

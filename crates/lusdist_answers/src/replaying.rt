@@ -25,8 +25,8 @@ use luweave::{World, new_sites, replay};
 use luweave_text::{TraceForm, Tracing, text_of_stands, text_of_stray, text_of_world, trace};
 use std::alloc::{AllocError, Global};
 
-/// The job of the files that a replay asks for, and its turns. The files are read and refused in the order of the words; the names that
-/// are observed come last.
+/// The job of the files that a replay asks for, and its turns. The files are read and refused in the order of
+/// the words; the names that are observed come last.
 fn job_and_turns<F: Files>(
     alloc: Global,
     request: ReplayRequest<'_>,
@@ -52,7 +52,8 @@ fn job_and_turns<F: Files>(
     Ok((job, turns))
 }
 
-/// The world that the turns make of a job's new sites; where it is to be finished, after more turns, until none moves.
+/// The world that the turns make of a job's new sites; where it is to be finished, after more turns, until
+/// none moves.
 pub fn replayed(alloc: Global, job: &Job, turns: &[u8], finish: bool) -> Result<World, CallError>
     ensures world { IfOk result (IsWorldOf job.now turns.now finish) }
     ensures faithful { IfOk result (λ world. IsFaithful world.job world.dones) }
@@ -208,8 +209,8 @@ fn replied(
     })
 }
 
-/// What a replay of a job gives: the text of its world, its notes with what is told of outputs that are observed, and a dump, where the
-/// request asks for one.
+/// What a replay of a job gives: the text of its world, its notes with what is told of outputs that are
+/// observed, and a dump, where the request asks for one.
 fn printed(
     alloc: Global,
     request: ReplayRequest<'_>,

@@ -26,8 +26,8 @@ use std::rt::Clock;
 use std::sync::Wait;
 use std::thread::Threads;
 
-/// The gate that holds nothing back. It hands on how far a site has come, and what the ends of its links counted, where somebody asked
-/// for that.
+/// The gate that holds nothing back. It hands on how far a site has come, and what the ends of its links
+/// counted, where somebody asked for that.
 #[derive(Drop)]
 struct Open<'p, P> {
     progress: Option<&'p P>,
@@ -96,8 +96,9 @@ fn stop_of(alloc: Global, job: &Job, error: RunError) -> CallError
     }
 }
 
-/// The outputs of a job that is run as is asked for, or why there are none. All its threads have ended when it returns. Where a progress is
-/// given, it gets how far the sites have come, and the same of what is counted.
+/// The outputs of a job that is run as is asked for, or why there are none. All its threads have ended when
+/// it returns. Where a progress is given, it gets how far the sites have come, and the same of what is
+/// counted.
 fn run_outputs<R: Threads + Wait + Clock + Sync, P: Progress>(
     rt: &R,
     alloc: Global,
@@ -118,7 +119,8 @@ fn run_outputs<R: Threads + Wait + Clock + Sync, P: Progress>(
     }
 }
 
-/// The table of a run's outputs, their dump, where the request asks for one, and what is told of those that are observed.
+/// The table of a run's outputs, their dump, where the request asks for one, and what is told of those that
+/// are observed.
 fn reported_outputs(
     alloc: Global,
     request: RunRequest<'_>,
@@ -152,8 +154,9 @@ fn stats_in(count: &Option<Count>) -> Option<&RunStats> {
     }
 }
 
-/// The table of the outputs of a job that is run as a request asks for, and their dump, where the request asks for one, with what is told
-/// of what it counted and of outputs that are observed; or why there is none. All threads of the run have ended when it returns.
+/// The table of the outputs of a job that is run as a request asks for, and their dump, where the request
+/// asks for one, with what is told of what it counted and of outputs that are observed; or why there is none.
+/// All threads of the run have ended when it returns.
 pub fn run_table<R: Threads + Wait + Clock + Sync, P: Progress>(
     rt: &R,
     alloc: Global,

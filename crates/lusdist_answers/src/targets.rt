@@ -1,4 +1,5 @@
-//! Where the dump of a call goes, before a file is read: over none of the call's own files, and to a place that can be written.
+//! Where the dump of a call goes, before a file is read: over none of the call's own files, and to a place
+//! that can be written.
 
 ghost use Rattle.std.specs.Prelude.{◌≡◌, ◌⊎◌, IfSome, IsNone, Some, true, false, option_map};
 ghost use Rattle.std.specs.Bool.{OnTrue};
@@ -122,8 +123,9 @@ fn refused_at<D: Dumps>(
     }
 }
 
-/// Why a request is refused for its dump, before a file is read: the dump would take the place of a file of the request, or it can't be
-/// written. Where there is no reason no file of the request is spelled as the path of its dump.
+/// Why a request is refused for its dump, before a file is read: the dump would take the place of a file of
+/// the request, or it can't be written. Where there is no reason no file of the request is spelled as the
+/// path of its dump.
 pub fn dump_refused<D: Dumps>(alloc: Global, dumps: &D, request: Request<'_>) -> Option<CallError>
     ensures refused { IfSome result (IsDumpRefused
         (record { same = D.same dumps.now; shut = D.shut dumps.now }) request.entry) }

@@ -16,8 +16,8 @@ use std::alloc::AllocError;
 use std::fmt;
 use thiserror::Error;
 
-/// Why a call stops before it prints anything. What it displays is the line that goes to the error stream, with no line
-/// feed.
+/// Why a call stops before it prints anything. What it displays is the line that goes to the error stream,
+/// with no line feed.
 #[derive(Debug, Drop, Error)]
 pub enum CallError {
     /// The file of this path can't be read.
@@ -100,8 +100,9 @@ impl From<AllocError> for CallError {
 }
 
 impl CallError {
-    /// The exit status: 1 where a text is refused, 2 where the words are wrong or a file can't be read, 3 where an evaluation or a run is a fault, a
-    /// dump can't be written, a run was cut short or memory ran out.
+    /// The exit status: 1 where a text is refused, 2 where the words are wrong or a file can't be read, 3
+    /// where an evaluation or a run is a fault, a dump can't be written, a run was cut short or memory ran
+    /// out.
     pub fn status(&self) -> u8
         ensures { result ≡ status_of self.now }
     {

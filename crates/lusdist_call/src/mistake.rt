@@ -10,7 +10,8 @@ use lusdist_shell::{EvalRequest, ReplayRequest, RunRequest, TurnsForm, TurnsSour
 use std::fmt;
 use thiserror::Error;
 
-/// What is wrong with words that the command line takes. What it displays is a line, without the line feed that ends it.
+/// What is wrong with words that the command line takes. What it displays is a line, without the line feed
+/// that ends it.
 #[derive(Debug, Drop, Error)]
 pub enum Mistake {
     /// No page has this code.
@@ -25,7 +26,8 @@ pub enum Mistake {
     TwoForms,
     /// What is to be observed is no bool output of the main node.
     Unobserved { name: Name },
-    /// It isn't said where the turns of a replay come from: from a schedule, or from a seed and a number of turns.
+    /// It isn't said where the turns of a replay come from: from a schedule, or from a seed and a number of
+    /// turns.
     UnclearTurns,
     /// Instants are given for turns of a replay of which none are reported.
     NoTurns,

@@ -3,7 +3,8 @@
 use crate::call_error::CallError;
 use std::alloc::AllocError;
 
-/// Why a call stops, and the dump that it leaves: of an evaluation that stops at a fault, that of the instants before it.
+/// Why a call stops, and the dump that it leaves: of an evaluation that stops at a fault, that of the
+/// instants before it.
 #[derive(Drop)]
 pub struct Refusal {
     pub error: CallError,

@@ -10,8 +10,8 @@ use lusdist_shell::{Sink, put_notes, put_out};
 use std::alloc::{AllocError, Global};
 use std::io::Write;
 
-/// What a call answers: a text for the output, notes for the error stream, and a dump for a file, where one is asked for; and whether the
-/// notes tell that an output that is observed is violated.
+/// What a call answers: a text for the output, notes for the error stream, and a dump for a file, where one
+/// is asked for; and whether the notes tell that an output that is observed is violated.
 #[derive(Drop)]
 pub struct Reply {
     pub text: String,
@@ -98,8 +98,8 @@ pub fn status_beside(violated: bool) -> u8
     if violated { 3 } else { 0 }
 }
 
-/// Writes a text to the output, and then its notes to the error stream. Answers the status: 0, or 3 where the output can't be
-/// written, which the error stream then reports, and no notes.
+/// Writes a text to the output, and then its notes to the error stream. Answers the status: 0, or 3 where the
+/// output can't be written, which the error stream then reports, and no notes.
 pub fn put_reply<W: Write, V: Write>(
     out: &mut Sink<W>,
     err: &mut Sink<V>,

@@ -194,8 +194,8 @@ fn violations_of(alloc: Global, names: &[&str], flows: &[Signal<'_>]) -> Result<
     Ok(text)
 }
 
-/// What is told of columns of these types, of which those of these names are observed: a line for each that is false at some instant, in
-/// the order of the names.
+/// What is told of columns of these types, of which those of these names are observed: a line for each that
+/// is false at some instant, in the order of the names.
 ///
 /// # Errors
 ///

@@ -6,7 +6,8 @@ ghost use Rattle.lusdist_call.specs.Workers.{workers_in, workers_named};
 
 use lurun::Workers;
 
-/// The workers that a word names: `auto`, or a number from 1 to 16 as it is printed; none where it names none.
+/// The workers that a word names: `auto`, or a number from 1 to 16 as it is printed; none where it names
+/// none.
 #[tactic(auto, unfolding(crate::specs::Workers::worker_words))]
 fn workers_named(word: &str) -> Option<Workers>
     ensures named { result ≡ workers_named word.now }

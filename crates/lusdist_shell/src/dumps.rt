@@ -11,8 +11,8 @@ use std::rt;
 /// A dump wasn't written.
 #[derive(Clone, Copy, Debug, PartialEq, Eq)]
 pub enum WriteError {
-    /// The file can't be written: it has no such place, or the disk is full, for instance. A file has what it had; what takes
-    /// bytes as they come, as a pipe, has a prefix of the text.
+    /// The file can't be written: it has no such place, or the disk is full, for instance. A file has what it
+    /// had; what takes bytes as they come, as a pipe, has a prefix of the text.
     CannotWrite,
     /// Memory ran out before anything was written.
     OutOfMemory,
@@ -23,20 +23,21 @@ pub trait Dumps {
     /// What was written so far: an entry for each write, in order.
     ghost written: { Self → List Written };
 
-    /// These two paths may name one file. Paths that are spelled alike do; of others an impl says what it can tell.
+    /// These two paths may name one file. Paths that are spelled alike do; of others an impl says what it can
+    /// tell.
     ghost same: { Self → List ℕ → List ℕ → Type 0 };
 
     /// No file can be written at this path, as a folder is there, or no such place.
     ghost shut: { Self → List ℕ → Type 0 };
 
-    /// Whether a dump at the one path would take the place of the file at the other one. It looks at what is there, and touches
-    /// nothing. Where it answers no, the paths aren't spelled alike.
+    /// Whether a dump at the one path would take the place of the file at the other one. It looks at what is
+    /// there, and touches nothing. Where it answers no, the paths aren't spelled alike.
     fn is_same(&self, alloc: Global, one: &str, other: &str) -> bool
         ensures alike { one.now ≡ other.now → result ≡ true }
         ensures same { OnTrue result (same self.now one.now other.now) };
 
-    /// Whether no file can be written at the path, as far as that is seen beforehand. What is there keeps what it has; a new file may
-    /// be made beside it and removed again.
+    /// Whether no file can be written at the path, as far as that is seen beforehand. What is there keeps
+    /// what it has; a new file may be made beside it and removed again.
     fn is_shut(&self, alloc: Global, path: &str) -> bool
         ensures shut { OnTrue result (shut self.now path.now) };
 

@@ -31,8 +31,8 @@ pub enum ReadError {
 
 /// Files by their paths, which are read.
 pub trait Files {
-    /// A read of the path may give these bytes, or none, where there is no file that can be read. Files in memory say which;
-    /// real files may give any.
+    /// A read of the path may give these bytes, or none, where there is no file that can be read. Files in
+    /// memory say which; real files may give any.
     ghost gives: { Self → List ℕ → Option (List ℕ) → Type 0 };
 
     /// The bytes of the file at the path.

@@ -1,8 +1,8 @@
-//! What the program needs around the language: its command line, its files, its schedule, its two streams, and the
-//! manual of refusals and faults.
+//! What the program needs around the language: its command line, its files, its schedule, its two streams,
+//! and the manual of refusals and faults.
 //!
-//! - [`parse`] reads the command line, [`request_in`] says what it asks for, a [`Request`], and [`put_mistake`] shows what the parser
-//!   says instead.
+//! - [`parse`] reads the command line, [`request_in`] says what it asks for, a [`Request`], and
+//!   [`put_mistake`] shows what the parser says instead.
 //! - [`Files`] is where texts come from: [`RealFiles`], or files in memory. [`Dumps`] is where a dump goes.
 //! - [`text_of`] sees bytes as text, where they are text.
 //! - [`read_schedule`] reads whose turn it is, turn by turn; [`random_turns`] makes random turns.
@@ -12,14 +12,15 @@
 //!
 //! # The manual
 //!
-//! A page for each code of a refusal or a fault, with the rule in words, a text that breaks it, and the same mended.
+//! A page for each code of a refusal or a fault, with the rule in words, a text that breaks it, and the same
+//! mended.
 //!
 //! - [`page_of`]: the page of a code, whose letter may be small.
 //! - [`all_codes`]: all codes with their names.
 //! - [`laws`]: each page begins with its own code and name.
 //!
-//! The texts are those of docs/FAULTS.md: `tools/faults` makes `page`, `listing` and the modules that have the pages,
-//! and `specs/Pages.antt`, from it.
+//! The texts are those of docs/FAULTS.md: `tools/faults` makes `page`, `listing` and the modules that have
+//! the pages, and `specs/Pages.antt`, from it.
 #![tactic(auto)]
 
 mod argument;

@@ -16,7 +16,8 @@ pub trait Progress: Sync {
     /// A run of so many sites and instants begins.
     fn begin(&self, sites: usize, instants: u32);
 
-    /// A site has done all its items of the instants before this one. The thread that serves the site calls it.
+    /// A site has done all its items of the instants before this one. The thread that serves the site calls
+    /// it.
     fn reach(&self, site: u8, instant: u32);
 }
 
@@ -30,8 +31,9 @@ impl Progress for Silent {
     fn reach(&self, _site: u8, _instant: u32) {}
 }
 
-/// Reports on the error stream how many instants the slowest site has done, at most twice a second: a line such as
-/// `4096 of 100000 instants`. A line that can't be written, or a clock that can't be read, is passed over.
+/// Reports on the error stream how many instants the slowest site has done, at most twice a second: a line
+/// such as `4096 of 100000 instants`. A line that can't be written, or a clock that can't be read, is passed
+/// over.
 #[derive(Drop)]
 pub struct Meter<'a, R> {
     runtime: &'a R,

@@ -12,7 +12,8 @@ use clap::error::ErrorKind;
 use std::io;
 use std::io::Write;
 
-/// The status of what was written to the output: 0, or 3 where it couldn't be written, which the error stream then reports.
+/// The status of what was written to the output: 0, or 3 where it couldn't be written, which the error stream
+/// then reports.
 fn written<W: Write, V: Write>(out: &Sink<W>, err: &mut Sink<V>) -> u8
     ensures status { (result ≡ 0) ⊎ ((result ≡ 3) × (out.now.failed ≡ true)) }
     ensures silent { result ≡ 0 → (err.new ≡ err.old) × (out.now.failed ≡ false) }
@@ -26,8 +27,8 @@ fn written<W: Write, V: Write>(out: &Sink<W>, err: &mut Sink<V>) -> u8
     }
 }
 
-/// Writes the bytes to the output, and answers the program's status: 0, or 3 where they can't be written, which the error
-/// stream then reports.
+/// Writes the bytes to the output, and answers the program's status: 0, or 3 where they can't be written,
+/// which the error stream then reports.
 pub fn put_out<W: Write, V: Write>(out: &mut Sink<W>, err: &mut Sink<V>, bytes: &[u8]) -> u8
     ensures status { (result ≡ 0) ⊎ ((result ≡ 3) × (out.new.failed ≡ true)) }
     ensures written { result ≡ 0 → Appends (W.contents out.old.writer)
@@ -50,8 +51,8 @@ pub fn put_notes<V: Write>(err: &mut Sink<V>, notes: &[u8])
     }
 }
 
-/// Reports on the error stream why the words of the command line can't be read, and answers the program's status: 3 where it is out
-/// of memory, and else 2, since a word is no text.
+/// Reports on the error stream why the words of the command line can't be read, and answers the program's
+/// status: 3 where it is out of memory, and else 2, since a word is no text.
 pub fn put_unread<V: Write>(err: &mut Sink<V>, why: io::ErrorKind) -> u8
     ensures memory { why ≡ NoMemory → (result ≡ 3)
         × HasLine V.contents err.old err.new (codes "R2 OutOfMemory") }
@@ -66,8 +67,8 @@ pub fn put_unread<V: Write>(err: &mut Sink<V>, why: io::ErrorKind) -> u8
     2
 }
 
-/// Shows what the parser of the command line says: help on the output with status 0, a mistake on the error stream with
-/// status 2, and out of memory with status 3.
+/// Shows what the parser of the command line says: help on the output with status 0, a mistake on the error
+/// stream with status 2, and out of memory with status 3.
 pub fn put_mistake<W: Write, V: Write>(
     out: &mut Sink<W>,
     err: &mut Sink<V>,

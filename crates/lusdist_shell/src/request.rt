@@ -165,7 +165,8 @@ pub struct ReplayRequest<'a> {
     pub messages: bool,
     /// Whether the turns are reported too that found no room or no message.
     pub blocked: bool,
-    /// The first instant and the last one, counted from 0, of the slowest site at which turns are reported, where one is given.
+    /// The first instant and the last one, counted from 0, of the slowest site at which turns are reported,
+    /// where one is given.
     pub from: Option<u32>,
     pub to: Option<u32>,
     /// The names of the outputs that are observed, in the order of the words.
@@ -506,8 +507,8 @@ pub fn request_in<'m, 'a: 'm>(matches: &'m ArgMatches<'a>) -> Request<'m>
     }
 }
 
-/// Reads the words of the command line, the program's own name first: `request_in` says what they ask for. What the parser says instead,
-/// help included, is shown by `put_mistake`.
+/// Reads the words of the command line, the program's own name first: `request_in` says what they ask for.
+/// What the parser says instead, help included, is shown by `put_mistake`.
 pub fn parse<'a>(alloc: Global, words: &'a [String]) -> Result<ArgMatches<'a>, Error>
     ensures command { IfOk result (λ m. IsCommand (subcommand_rows_of m)) }
     ensures matches { IfOk result (λ m. subcommand_rows_of m

@@ -53,8 +53,8 @@ fn is_blank(letter: u8) -> bool
     letter == b' ' || letter == b'\n'
 }
 
-/// Reads the text of a schedule into the sites whose turns they are, in order. It makes one growth, of at most as many
-/// bytes as the text has.
+/// Reads the text of a schedule into the sites whose turns they are, in order. It makes one growth, of at
+/// most as many bytes as the text has.
 pub fn read_schedule(alloc: Global, text: &[u8]) -> Result<Vec<u8>, ScheduleError>
     ensures exact { MatchResult result
         (λ turns. schedule_of text.now ≡ Ok turns.items)

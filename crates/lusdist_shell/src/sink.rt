@@ -8,8 +8,8 @@ ghost use Rattle.lusdist_shell.specs.Sinks.{HasPut, HasLineOf, HasBeginning};
 use std::fmt::Display;
 use std::io::{ErrorKind, Write};
 
-/// A stream that the program writes to. It remembers whether a write has failed, so that a contract can say of each call what
-/// stands in the stream after it, or that a write failed.
+/// A stream that the program writes to. It remembers whether a write has failed, so that a contract can say
+/// of each call what stands in the stream after it, or that a write failed.
 #[derive(Drop)]
 pub struct Sink<W> {
     writer: W,

@@ -1,4 +1,5 @@
-//! Where a dump goes in the files of the system: into a new file beside its target, which takes the target's place when it is whole.
+//! Where a dump goes in the files of the system: into a new file beside its target, which takes the target's
+//! place when it is whole.
 
 use std::fs::{File, OpenFile, OpenOptions, Permissions};
 use std::io::{ErrorKind, Write};
@@ -82,7 +83,8 @@ fn permissions_of<R: rt::Files + AllocGlobal>(runtime: &R, place: &str) -> io::R
     Ok(file.metadata()?.permissions())
 }
 
-/// Whether a dump can't be written at the path, as far as that can be seen. What stands there is left as it is.
+/// Whether a dump can't be written at the path, as far as that can be seen. What stands there is left as it
+/// is.
 pub fn is_shut<R: rt::Files + AllocGlobal>(runtime: &R, path: &str) -> bool {
     match target_of(runtime, path) {
         Ok(Target::Place(place)) => {
@@ -118,7 +120,8 @@ fn fill<F: OpenFile + Write + Drop>(
     file.sync_all()
 }
 
-/// Writes the bytes into a new file beside a target, which then takes its place. Where a step fails the new file is removed.
+/// Writes the bytes into a new file beside a target, which then takes its place. Where a step fails the new
+/// file is removed.
 fn replace<R: rt::Files + AllocGlobal>(
     runtime: &R,
     place: &str,
@@ -136,7 +139,8 @@ fn replace<R: rt::Files + AllocGlobal>(
     done
 }
 
-/// Writes the bytes at the path, in place of what it had. Where that fails a file has what it had; a stream has a prefix of the bytes.
+/// Writes the bytes at the path, in place of what it had. Where that fails a file has what it had; a stream
+/// has a prefix of the bytes.
 pub fn put<R: rt::Files + AllocGlobal>(runtime: &R, path: &str, bytes: &[u8]) -> io::Result<()> {
     match target_of(runtime, path)? {
         Target::Place(place) => {

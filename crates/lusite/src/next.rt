@@ -18,7 +18,8 @@ pub enum Next {
     Faulted,
 }
 
-/// An operator that has no value: the main variable in whose equation it stands, the instant, and how it fails.
+/// An operator that has no value: the main variable in whose equation it stands, the instant, and how it
+/// fails.
 #[derive(Clone, Copy, Debug, Drop, PartialEq, Eq)]
 pub struct Fault {
     /// The number of the main variable; of a tuple's equation the first.

@@ -99,9 +99,9 @@ impl Site {
 impl SiteReport {
     ghost use Rattle.lusite.specs.Sites.{whole_site};
 
-    /// The report of a site that has done its whole script in another way than item by item: in blocks of instants, or once an
-    /// instant. By the number of each output, `names` has its name, and `rows` all its statuses where this
-    /// site reports it, else nothing. Takes no memory.
+    /// The report of a site that has done its whole script in another way than item by item: in blocks of
+    /// instants, or once an instant. By the number of each output, `names` has its name, and `rows` all its
+    /// statuses where this site reports it, else nothing. Takes no memory.
     pub fn whole(
         job: Snapshot<Job>,
         site: u8,
@@ -162,7 +162,8 @@ impl SiteReport {
         }
     }
 
-    /// The names of the main outputs, of all sites, in order of declaration: by the number of each. Takes no memory.
+    /// The names of the main outputs, of all sites, in order of declaration: by the number of each. Takes no
+    /// memory.
     pub fn names(&self) -> &[Name]
         ensures { result.now ≡ output_names self.now.job.plan }
     {
@@ -182,8 +183,8 @@ impl SiteReport {
         }
     }
 
-    /// Output k as far as the site passed it: a prefix of its statuses, and all of them where the site has ended; empty
-    /// where another site reports it, and where there is no output k. Takes no memory.
+    /// Output k as far as the site passed it: a prefix of its statuses, and all of them where the site has
+    /// ended; empty where another site reports it, and where there is no output k. Takes no memory.
     pub fn outputs(&self, k: usize) -> &[Status]
         ensures { IsOutput self.now.job self.now.site self.now.done k result.now }
     {
@@ -193,7 +194,8 @@ impl SiteReport {
         }
     }
 
-    /// All outputs, by number, each as [`SiteReport::outputs`] reports it: they are moved out of the report, and not copied.
+    /// All outputs, by number, each as [`SiteReport::outputs`] reports it: they are moved out of the report,
+    /// and not copied.
     pub fn into_outputs(self, alloc: Global) -> Result<Vec<Vec<Status>>, AllocError>
         ensures len { IfOk result (λ rows. length rows.items ≡ length (outputs_of self.job.plan)) }
         ensures each { IfOk result (λ rows. (k : ℕ) → IsOutput self.job self.site self.done k

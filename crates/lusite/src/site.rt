@@ -24,7 +24,8 @@ use std::alloc::{AllocError, Global};
 use std::marker::Model;
 use std::snapshot::Snapshot;
 
-/// The machine of one site. A contract sees its job, its site, and how many items of the site's script are done.
+/// The machine of one site. A contract sees its job, its site, and how many items of the site's script are
+/// done.
 pub struct Site {
     state: SiteState,
     /// True only where the next item is a computation.
@@ -95,8 +96,8 @@ fn begun(program: SiteProgram, inputs: SiteInputs, held: Held, kept: Vec<usize>)
 }
 
 impl Site {
-    /// The site's machine at the start of its script, from the site's program and its own columns alone. It makes all
-    /// growths of the run.
+    /// The site's machine at the start of its script, from the site's program and its own columns alone. It
+    /// makes all growths of the run.
     pub fn new(alloc: Global, program: SiteProgram, inputs: SiteInputs) -> Result<Site, AllocError>
         requires plan_is { program.plan ≡ inputs.job.plan }
         requires site_is { program.site ≡ inputs.site }
@@ -133,8 +134,9 @@ impl Site {
         self.state.inputs.recall_invariant();
     }
 
-    /// The instant at which the site stands, from 0: it has done all its items of the instants before. Once it has done all
-    /// instants it is their number, 0 to 1,000,000; where it has faulted, the instant of the fault. Takes no memory.
+    /// The instant at which the site stands, from 0: it has done all its items of the instants before. Once
+    /// it has done all instants it is their number, 0 to 1,000,000; where it has faulted, the instant of the
+    /// fault. Takes no memory.
     #[inline(always)]
     pub fn instant(&self) -> u32
         ensures { IsAtInstant self.now.job self.now.site self.now.done result }
@@ -149,7 +151,8 @@ impl Site {
         self.state.program.sites()
     }
 
-    /// The names of the main outputs, of all sites, in order of declaration: by the number of each. Takes no memory.
+    /// The names of the main outputs, of all sites, in order of declaration: by the number of each. Takes no
+    /// memory.
     pub fn names(&self) -> &[Name]
         ensures { result.now ≡ output_names self.now.job.plan }
     {
@@ -167,9 +170,9 @@ impl Site {
         self.state.offer()
     }
 
-    /// Output k so far: a prefix of its statuses before its first broken one, and all of them where the site has ended;
-    /// empty where another site reports it, and where there is no output k. A present status is reported with its computation,
-    /// an absent one when all items before it are done. Takes no memory.
+    /// Output k so far: a prefix of its statuses before its first broken one, and all of them where the site
+    /// has ended; empty where another site reports it, and where there is no output k. A present status is
+    /// reported with its computation, an absent one when all items before it are done. Takes no memory.
     pub fn outputs(&self, k: usize) -> &[Status]
         ensures { IsOutput self.now.job self.now.site self.now.done k result.now }
     {
@@ -187,8 +190,8 @@ impl Site {
         drawn(alloc, &program, logs)
     }
 
-    /// The fault of the site's last computation, which is one of the program's solution; there is one exactly where
-    /// `next` is `Faulted`. Takes no memory.
+    /// The fault of the site's last computation, which is one of the program's solution; there is one exactly
+    /// where `next` is `Faulted`. Takes no memory.
     pub fn fault(&self) -> Option<Fault>
         ensures is_fault { IfSome result (IsFaultAt self.now.job self.now.site) }
         ensures when { IsSome result ↔ IsNext self.now.job self.now.site self.now.done
@@ -197,8 +200,9 @@ impl Site {
         self.state.fault
     }
 
-    /// How many items the site would still do if every flow that it hasn't passed were present at each instant; 0 where it has
-    /// faulted. At most 268,439,820,439,552. Looks at each flow a few times, however many instants there are. Takes no memory.
+    /// How many items the site would still do if every flow that it hasn't passed were present at each
+    /// instant; 0 where it has faulted. At most 268,439,820,439,552. Looks at each flow a few times, however
+    /// many instants there are. Takes no memory.
     pub fn left(&self) -> u64
         ensures left { result ≡ left_after (outline self.now.job (streams_of self.now.job))
             self.now.site self.now.done }

@@ -469,8 +469,8 @@ impl SiteState {
         false
     }
 
-    /// Whether the flow at hand is computed next, at an instant of the table. Where it follows one that is present, a clock that is the
-    /// same isn't looked at.
+    /// Whether the flow at hand is computed next, at an instant of the table. Where it follows one that is
+    /// present, a clock that is the same isn't looked at.
     #[inline(always)]
     fn starts(&self, follows: bool) -> bool
         requires going { IsGoing self.now }

@@ -15,8 +15,8 @@ use luplace::Job;
 use std::marker::Model;
 use std::snapshot::Snapshot;
 
-/// What is left of a site that has done its whole script, in blocks of instants or once an instant. A contract sees the site at the
-/// end of its script.
+/// What is left of a site that has done its whole script, in blocks of instants or once an instant. A
+/// contract sees the site at the end of its script.
 pub struct WholeSite {
     pub(crate) job: Snapshot<Job>,
     pub(crate) site: u8,

@@ -80,7 +80,8 @@ fn note_row(
     Ok(())
 }
 
-/// The links of a site, in one pass over all links. A flow that the site doesn't send has an empty row, which takes no memory.
+/// The links of a site, in one pass over all links. A flow that the site doesn't send has an empty row, which
+/// takes no memory.
 pub fn carriers_of(
     alloc: Global,
     plan: &Plan,

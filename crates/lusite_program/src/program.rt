@@ -30,7 +30,8 @@ pub struct Part {
 /// A flow that a site computes or takes, as the site's machine has it.
 #[derive(Clone, Copy, Drop)]
 pub struct SiteFlow {
-    /// The flow, with its number among these flows in order of rank in place of its place; so are its operands and its clock's variable.
+    /// The flow, with its number among these flows in order of rank in place of its place; so are its
+    /// operands and its clock's variable.
     pub line: Line,
     /// The number of the main variable in whose equation the flow stands.
     pub owner: usize,
@@ -48,8 +49,8 @@ pub struct SiteFlow {
     pub same: bool,
 }
 
-/// What of a plan a site runs: the flows that it computes or takes, in order of rank, and its part in each. It keeps, for contracts
-/// alone, which plan it is of.
+/// What of a plan a site runs: the flows that it computes or takes, in order of rank, and its part in each.
+/// It keeps, for contracts alone, which plan it is of.
 pub struct SiteProgram {
     pub(crate) site: u8,
     /// How many flows the whole program has.
@@ -135,8 +136,8 @@ impl SiteProgram {
         self.places.as_slice()
     }
 
-    /// The flows that the site computes or takes, in order of rank, as its machine has them, the numbers of the branches of the
-    /// merges among them, and the links by which the site sends them.
+    /// The flows that the site computes or takes, in order of rank, as its machine has them, the numbers of
+    /// the branches of the merges among them, and the links by which the site sends them.
     #[inline(always)]
     pub fn code(&self) -> (&[SiteFlow], &[u16], &[LinkNo])
         ensures { AreSiteFlows self.now.plan self.now.site result.1.now result.2.now result.0.now }
@@ -148,7 +149,8 @@ impl SiteProgram {
         )
     }
 
-    /// The rank of flow number k of those that the site computes or takes; behind the last the number of all flows.
+    /// The rank of flow number k of those that the site computes or takes; behind the last the number of all
+    /// flows.
     pub fn rank(&self, k: usize) -> usize
         ensures { result ≡ rank_at self.now k }
     {
@@ -166,7 +168,8 @@ impl SiteProgram {
         self.reported.as_slice().len()
     }
 
-    /// The number, among the flows that the site computes or takes, of that which is output k, where the site reports it.
+    /// The number, among the flows that the site computes or takes, of that which is output k, where the site
+    /// reports it.
     pub fn reported_flow(&self, k: usize) -> Option<usize>
         ensures there { (i : ℕ) → slice_get (outputs_of self.now.plan) k ≡ Option.Some i
             → Reports self.now.plan self.now.site i result }

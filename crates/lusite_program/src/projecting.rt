@@ -156,7 +156,8 @@ fn note_number(numbers: &mut Vec<u16>, place: usize, number: usize)
     numbers[place] = number as u16;
 }
 
-/// By its place, the number of each flow that a site computes or takes among these, in order of rank; 0 for the others.
+/// By its place, the number of each flow that a site computes or takes among these, in order of rank; 0 for
+/// the others.
 fn numbers_of(alloc: Global, flows: usize, places: &[usize]) -> Result<Vec<u16>, AllocError>
     requires few { length places.now < 65536 }
     requires within { (k : ℕ) → k < length places.now → slice_index places.now k < flows }
@@ -198,8 +199,8 @@ fn parts(
     Ok(all)
 }
 
-/// What the machine of a site has of its flows: these in order of rank, the numbers of the branches of the merges among them, and the
-/// links by which the site sends them.
+/// What the machine of a site has of its flows: these in order of rank, the numbers of the branches of the
+/// merges among them, and the links by which the site sends them.
 struct SiteParts {
     site_flows: Vec<SiteFlow>,
     branches: Vec<u16>,
@@ -228,9 +229,9 @@ fn same_clock(a: LineClock, b: LineClock) -> bool
     }
 }
 
-/// The flow of a rank, as the machine of a site has it. The places of its branches, where it is a merge, are put behind those of
-/// other flows, and the links by which the site sends it behind those of others. The clock of the flow before is given, and its own comes
-/// in the place of that.
+/// The flow of a rank, as the machine of a site has it. The places of its branches, where it is a merge, are
+/// put behind those of other flows, and the links by which the site sends it behind those of others. The
+/// clock of the flow before is given, and its own comes in the place of that.
 fn site_flow(
     plan: &Plan,
     site: u8,

@@ -8,9 +8,9 @@ ghost use Rattle.lusource.specs.RunLaws.{SourceLaw};
 ghost use Rattle.lusource.specs.Vectors.{VectorsLaw};
 ghost use Rattle.lusource.specs.StreamVectors.{StreamVectors};
 
-/// Worked expressions of all forms, on the base clock and on slower ones; calls, with their numbers, nodes, clocks and
-/// arguments; the instances of nested calls; the right sides of two counters that count each other; and what a table gives the
-/// main node.
+/// Worked expressions of all forms, on the base clock and on slower ones; calls, with their numbers, nodes,
+/// clocks and arguments; the instances of nested calls; the right sides of two counters that count each
+/// other; and what a table gives the main node.
 pub fn vectors_law()
     ensures { VectorsLaw }
 {}
@@ -25,13 +25,14 @@ pub fn instance_law()
     ensures { InstanceLaw }
 {}
 
-/// Worked expressions where a stream that they look at breaks: which of them are there again after it and which never, at
-/// which instants they look, and in which order they take their operands.
+/// Worked expressions where a stream that they look at breaks: which of them are there again after it and
+/// which never, at which instants they look, and in which order they take their operands.
 pub fn stream_vectors_law()
     ensures { StreamVectors }
 {}
 
-/// A program that agrees with a flat program has a solution, and all its solutions give the main variables the same streams.
+/// A program that agrees with a flat program has a solution, and all its solutions give the main variables
+/// the same streams.
 pub fn one_main_meaning_law()
     ensures { OneMainMeaningLaw }
 {}
@@ -41,7 +42,8 @@ pub fn one_meaning_law()
     ensures { OneMeaningLaw }
 {}
 
-/// Where worked expressions are at fault and where they aren't, and of which main variable a fault in a called node is reported.
+/// Where worked expressions are at fault and where they aren't, and of which main variable a fault in a
+/// called node is reported.
 pub fn fault_vectors_law()
     ensures { FaultVectorsLaw }
 {}
@@ -51,8 +53,8 @@ pub fn fault_paths_law()
     ensures { FaultPathsLaw }
 {}
 
-/// In each solution of a run's source the main variables have the streams, and the links the lists, that the flat program's
-/// only solution gives them.
+/// In each solution of a run's source the main variables have the streams, and the links the lists, that the
+/// flat program's only solution gives them.
 pub fn source_law()
     ensures { SourceLaw }
 {}

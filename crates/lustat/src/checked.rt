@@ -15,8 +15,8 @@ use lutree::Program;
 use lutype::Typed;
 use std::marker::Model;
 
-/// A program that keeps all rules, lent, with the name of its main node, an order of its nodes in which calls go backward, and the
-/// classes of its nodes' variables. A contract sees the `Whole` of `specs/Whole.antt`.
+/// A program that keeps all rules, lent, with the name of its main node, an order of its nodes in which calls
+/// go backward, and the classes of its nodes' variables. A contract sees the `Whole` of `specs/Whole.antt`.
 pub struct Checked<'a> {
     typed: Typed<'a>,
     classes: Vec<Vec<bool>>,
@@ -60,7 +60,7 @@ impl<'a> Model for Checked<'a> {
 }
 
 impl<'a> Checked<'a> {
-    // What the checks found in order.
+    /// What the checks found in order.
     pub(crate) fn new(typed: Typed<'a>, classes: Vec<Vec<bool>>) -> Checked<'a>
         requires { IsSound (record {
           program = typed.program;
@@ -110,7 +110,8 @@ impl<'a> Checked<'a> {
         self.typed.order()
     }
 
-    /// The classes of the variables of the node at a place of the text, counted from 0: a mark by place of declaration, true for class
+    /// The classes of the variables of the node at a place of the text, counted from 0: a mark by place of
+    /// declaration, true for class
     /// 1. Behind them stand marks of something else.
     pub fn classes(&self, node: usize) -> &[bool]
         requires { node < length self.now.program.nodes }

@@ -17,7 +17,7 @@ use lutree::Program;
 use lutype::{Typed, names};
 use std::alloc::Global;
 
-// The last stage: the classes of a program that keeps the rules of names and of clocks.
+/// The last stage: the classes of a program that keeps the rules of names and of clocks.
 fn classes_of(alloc: Global, typed: &Typed) -> Result<Vec<Vec<bool>>, StatError>
     requires { AreKept is_asked typed.now.program typed.now.main }
     ensures accepted { IfOk result (λ _. IsAccepted (program_view typed.now.program)
@@ -33,7 +33,7 @@ fn classes_of(alloc: Global, typed: &Typed) -> Result<Vec<Vec<bool>>, StatError>
     }
 }
 
-// The stages behind that of names: the classes of a program that keeps the rules of names.
+/// The stages behind that of names: the classes of a program that keeps the rules of names.
 fn later_stages(alloc: Global, typed: &Typed) -> Result<Vec<Vec<bool>>, StatError>
     ensures accepted { IfOk result (λ _. IsAccepted (program_view typed.now.program)
         typed.now.main) }
@@ -49,16 +49,17 @@ fn later_stages(alloc: Global, typed: &Typed) -> Result<Vec<Vec<bool>>, StatErro
     }
 }
 
-/// Whether a program keeps all rules: those of names and types, then those of clocks, then those of initialisation. Every node is
-/// checked.
+/// Whether a program keeps all rules: those of names and types, then those of clocks, then those of
+/// initialisation. Every node is checked.
 ///
 /// The expected time grows with the size of the program.
 ///
 /// # Errors
 ///
-/// An error other than out of memory reports a rule that is broken, where all rules of the stages before are kept: of its stage the
-/// fault of the least byte, at equal bytes that of the least number, each at its place in the text. Of several nodes that reach
-/// themselves by calls only the first in order of text is thought of.
+/// An error other than out of memory reports a rule that is broken, where all rules of the stages before are
+/// kept: of its stage the fault of the least byte, at equal bytes that of the least number, each at its place
+/// in the text. Of several nodes that reach themselves by calls only the first in order of text is thought
+/// of.
 pub fn check<'a>(
     alloc: Global,
     program: &'a Program,

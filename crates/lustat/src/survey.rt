@@ -16,7 +16,7 @@ use lutree::Program;
 use lutype::{Typed, all_name_faults, names};
 use std::alloc::{AllocError, Global};
 
-// The faults of the last stage, of a program that keeps the rules of names and of clocks.
+/// The faults of the last stage, of a program that keeps the rules of names and of clocks.
 fn class_faults(alloc: Global, typed: &Typed) -> Result<Vec<StatError>, AllocError>
     requires { AreKept is_asked typed.now.program typed.now.main }
     ensures { IfOk result
@@ -29,7 +29,7 @@ fn class_faults(alloc: Global, typed: &Typed) -> Result<Vec<StatError>, AllocErr
     }
 }
 
-// The faults of the first stage behind that of names that has any.
+/// The faults of the first stage behind that of names that has any.
 fn later_faults(alloc: Global, typed: &Typed) -> Result<Vec<StatError>, AllocError>
     ensures { IfOk result
         (λ faults. AreTold typed.now.program typed.now.main faults.items) }
@@ -43,7 +43,7 @@ fn later_faults(alloc: Global, typed: &Typed) -> Result<Vec<StatError>, AllocErr
     }
 }
 
-// That a refusal isn't that memory ran out.
+/// That a refusal isn't that memory ran out.
 fn is_of_program(refusal: &StatError) -> Result<(), AllocError>
     ensures { OnOk result (refusal.now ≢ OutOfMemory) }
 {
@@ -53,7 +53,7 @@ fn is_of_program(refusal: &StatError) -> Result<(), AllocError>
     }
 }
 
-// The faults of the first stage that has any.
+/// The faults of the first stage that has any.
 fn first_faults(alloc: Global, program: &Program, main: &str) -> Result<Vec<StatError>, AllocError>
     ensures { IfOk result (λ faults. AreTold program.now main.now faults.items) }
 {
@@ -67,10 +67,10 @@ fn first_faults(alloc: Global, program: &Program, main: &str) -> Result<Vec<Stat
     }
 }
 
-/// All faults of the first stage that has any: of names and types, else of clocks, else of initialisation. There are none exactly
-/// where the program keeps all rules. Each stands in the list once, in order of place: by byte, at equal bytes by number, so the
-/// first is what [`crate::check`] reports. Of several nodes that reach themselves by calls only the first in order of text is
-/// thought of.
+/// All faults of the first stage that has any: of names and types, else of clocks, else of initialisation.
+/// There are none exactly where the program keeps all rules. Each stands in the list once, in order of place:
+/// by byte, at equal bytes by number, so the first is what [`crate::check`] reports. Of several nodes that
+/// reach themselves by calls only the first in order of text is thought of.
 ///
 /// The expected time grows with the size of the program, and with the count of faults times its logarithm.
 ///

@@ -11,7 +11,7 @@ use lubase::Name;
 use lustat_rules::{PlacedClock, Scope};
 use lutree::Equation;
 
-// Whether all variables have a clock.
+/// Whether all variables have a clock.
 fn all_have(scope: &Scope, names: &[Name], k: PlacedClock) -> bool
     requires { IsPlaced (node_view scope.now) k }
     ensures { IsTrue result ↔ All (λ x. HasClock (node_view scope.now) x (placed_view k.entry))

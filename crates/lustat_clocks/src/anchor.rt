@@ -11,7 +11,7 @@ use crate::fit::fits;
 use lustat_rules::{ClockRef, Scope};
 use lutree::Expr;
 
-// The clock of the clock of a variable.
+/// The clock of the clock of a variable.
 fn anchor_of_current<'a>(scope: &Scope<'a>, name: &str) -> Option<ClockRef<'a>>
     ensures { option_map the_clock result ≡ current_anchor (node_view scope.now) name.now }
 {
@@ -21,7 +21,7 @@ fn anchor_of_current<'a>(scope: &Scope<'a>, name: &str) -> Option<ClockRef<'a>>
     }
 }
 
-// The clock that the first part with one names.
+/// The clock that the first part with one names.
 #[cycle(anchors)]
 fn anchor_of<'s: 'e, 'e>(scope: &Scope<'s>, e: &'e Expr) -> Option<ClockRef<'e>>
     ensures { option_map the_clock result ≡ anchor (node_view scope.now) (view e.now) }
@@ -48,7 +48,7 @@ fn anchor_of<'s: 'e, 'e>(scope: &Scope<'s>, e: &'e Expr) -> Option<ClockRef<'e>>
     }
 }
 
-// The clock that the first argument with one names.
+/// The clock that the first argument with one names.
 #[cycle(anchors)]
 fn anchor_of_arguments<'s: 'e, 'e>(scope: &Scope<'s>, arguments: &'e [Expr]) -> Option<ClockRef<'e>>
     ensures { option_map the_clock result ≡ anchor_of_all (node_view scope.now)

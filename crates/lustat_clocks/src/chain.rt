@@ -15,7 +15,7 @@ use lustat_rules::Scope;
 use lutree::{Condition, Declaration, Equation, Expr, Kind, Pattern};
 use std::alloc::{AllocError, Global};
 
-// The place of the variable that a declared clock names.
+/// The place of the variable that a declared clock names.
 fn place_of_clock(scope: &Scope, declaration: &Declaration) -> Option<usize>
     ensures { result ≡ place_before (node_view scope.now) declaration.now.clock }
 {
@@ -25,7 +25,7 @@ fn place_of_clock(scope: &Scope, declaration: &Declaration) -> Option<usize>
     }
 }
 
-// The places of declarations on the base clock.
+/// The places of declarations on the base clock.
 fn based(alloc: Global, declarations: &[&Declaration]) -> Result<Vec<usize>, AllocError>
     ensures { IfOk result (λ starts. AreBased (lent_view declarations.now)
         (length declarations.now) starts.items) }
@@ -39,7 +39,7 @@ fn based(alloc: Global, declarations: &[&Declaration]) -> Result<Vec<usize>, All
     Ok(starts)
 }
 
-// A link to each declaration from that of the variable that its clock names.
+/// A link to each declaration from that of the variable that its clock names.
 fn clocked(
     alloc: Global,
     scope: &Scope,
@@ -57,8 +57,8 @@ fn clocked(
     Ok(links)
 }
 
-/// For each declaration of a node, inputs, outputs and locals in order, whether its chain of clocks ends at the base clock.
-/// The time grows with the length of the declarations.
+/// For each declaration of a node, inputs, outputs and locals in order, whether its chain of clocks ends at
+/// the base clock. The time grows with the length of the declarations.
 ///
 /// # Errors
 ///
@@ -72,7 +72,7 @@ pub fn chain_ends(alloc: Global, scope: &Scope) -> Result<Vec<bool>, AllocError>
     reached(alloc, declarations.len(), &starts, &links)
 }
 
-// The type of what a pattern may be.
+/// The type of what a pattern may be.
 fn kind_of_pattern(pattern: &Pattern) -> Kind
     ensures { result ≡ pattern_kind pattern.now }
 {
@@ -82,21 +82,21 @@ fn kind_of_pattern(pattern: &Pattern) -> Kind
     }
 }
 
-// Whether an expression of a type may be what a pattern asks for.
+/// Whether an expression of a type may be what a pattern asks for.
 fn is_kind_of(kind: Option<Kind>, pattern: &Pattern) -> bool
     ensures { IsTrue result ↔ (kind ≡ Some (pattern_kind pattern.now)) }
 {
     kind == Some(kind_of_pattern(pattern))
 }
 
-// Whether the variable of a clock has the type of its pattern.
+/// Whether the variable of a clock has the type of its pattern.
 fn is_typed(scope: &Scope, clock: &Condition) -> bool
     ensures { IsTrue result ↔ IsTypedClock (node_view scope.now) clock.now }
 {
     is_kind_of(scope.kind(clock.variable.as_str()), &clock.pattern)
 }
 
-// Whether the variable of a declaration's clock, if it has one, has the type of the pattern.
+/// Whether the variable of a declaration's clock, if it has one, has the type of the pattern.
 fn is_on_typed(scope: &Scope, declaration: &Declaration) -> bool
     ensures { IsTrue result ↔ IfSome declaration.now.clock (IsTypedClock (node_view scope.now)) }
 {
@@ -106,15 +106,16 @@ fn is_on_typed(scope: &Scope, declaration: &Declaration) -> bool
     }
 }
 
-// Whether a place has a mark.
+/// Whether a place has a mark.
 fn has_mark(marks: &[bool], place: usize) -> bool
     ensures { IsTrue result ↔ Has marks.now place }
 {
     place < marks.len() && marks[place]
 }
 
-/// `E21` at a declaration: the variable of its clock, if it has one, has the type of the pattern, and its chain of clocks ends.
-/// `place` is where it stands among the declarations of its node, `ends` is what [`chain_ends`] gives.
+/// `E21` at a declaration: the variable of its clock, if it has one, has the type of the pattern, and its
+/// chain of clocks ends. `place` is where it stands among the declarations of its node, `ends` is what
+/// [`chain_ends`] gives.
 pub fn is_clock(scope: &Scope, declaration: &Declaration, place: usize, ends: &[bool]) -> bool
     requires ends { MarksEnds (node_view scope.now) ends.now }
     requires place { slice_get (declarations_of (node_view scope.now)) place
@@ -124,7 +125,7 @@ pub fn is_clock(scope: &Scope, declaration: &Declaration, place: usize, ends: &[
     is_on_typed(scope, declaration) && has_mark(ends, place)
 }
 
-// Whether a merge may be on an expression of a type.
+/// Whether a merge may be on an expression of a type.
 fn can_merge(kind: Option<Kind>) -> bool
     ensures { IsTrue result ↔ CanMerge kind }
 {
@@ -134,14 +135,14 @@ fn can_merge(kind: Option<Kind>) -> bool
     }
 }
 
-// Whether an expression of a type may be what each of some patterns asks for.
+/// Whether an expression of a type may be what each of some patterns asks for.
 fn is_kind_of_all(kind: Option<Kind>, patterns: &[Pattern]) -> bool
     ensures { IsTrue result ↔ All (λ p. kind ≡ Some (pattern_kind p)) patterns.now }
 {
     patterns.iter().all(|p| is_kind_of(kind, p))
 }
 
-// Whether a merge is on a bool or on a variable of an enumeration, which has the type of its patterns.
+/// Whether a merge is on a bool or on a variable of an enumeration, which has the type of its patterns.
 fn merge_names_clocks(scope: &Scope, name: &str, patterns: &[Pattern]) -> bool
     ensures { IsTrue result ↔ (CanMerge (kind_of (node_view scope.now) name.now)
         × All (λ p. kind_of (node_view scope.now) name.now ≡ Some (pattern_kind p)) patterns.now) }
@@ -150,7 +151,7 @@ fn merge_names_clocks(scope: &Scope, name: &str, patterns: &[Pattern]) -> bool
     can_merge(kind) && is_kind_of_all(kind, patterns)
 }
 
-// Whether what an expression names as clocks are clocks, form by form.
+/// Whether what an expression names as clocks are clocks, form by form.
 #[cycle(clocks)]
 fn names_clocks_inside(scope: &Scope, e: &Expr) -> bool
     ensures { IsTrue result ↔ EachPart (NamesClocks (node_view scope.now)) (view e.now) }
@@ -174,7 +175,7 @@ fn names_clocks_inside(scope: &Scope, e: &Expr) -> bool
     }
 }
 
-// Whether what the arguments of a call or the branches of a merge name as clocks are clocks.
+/// Whether what the arguments of a call or the branches of a merge name as clocks are clocks.
 #[cycle(clocks)]
 fn all_name_clocks(scope: &Scope, arguments: &[Expr]) -> bool
     ensures { IsTrue result ↔ EachPartOf (NamesClocks (node_view scope.now))
@@ -189,7 +190,8 @@ fn all_name_clocks(scope: &Scope, arguments: &[Expr]) -> bool
     true
 }
 
-/// `E21` at an equation: the variable of a clock after `when`, and of a merge, has the type of the patterns. Takes no memory.
+/// `E21` at an equation: the variable of a clock after `when`, and of a merge, has the type of the patterns.
+/// Takes no memory.
 pub fn names_clocks(scope: &Scope, equation: &Equation) -> bool
     ensures { IsTrue result ↔ ClocksAreTyped (node_view scope.now) (equation_view equation.now) }
 {

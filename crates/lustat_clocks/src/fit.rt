@@ -22,7 +22,7 @@ pub fn has_clock(scope: &Scope, name: &str, k: PlacedClock) -> bool
     }
 }
 
-// Whether the variable that a clock names has another clock.
+/// Whether the variable that a clock names has another clock.
 fn is_under(scope: &Scope, j: PlacedClock, k: PlacedClock) -> bool
     requires sampled { IsPlaced (node_view scope.now) j }
     requires under { IsPlaced (node_view scope.now) k }
@@ -35,7 +35,7 @@ fn is_under(scope: &Scope, j: PlacedClock, k: PlacedClock) -> bool
     }
 }
 
-// Whether `current` of a variable fits a clock.
+/// Whether `current` of a variable fits a clock.
 fn current_fits(scope: &Scope, name: &str, k: PlacedClock) -> bool
     requires { IsPlaced (node_view scope.now) k }
     ensures { IsTrue result ↔ FitsClockInside (node_view scope.now) (tree.current name.now)
@@ -47,7 +47,7 @@ fn current_fits(scope: &Scope, name: &str, k: PlacedClock) -> bool
     }
 }
 
-// Whether an expression fits a clock, form by form.
+/// Whether an expression fits a clock, form by form.
 #[cycle(fits)]
 fn fits_inside(scope: &Scope, e: &Expr, k: PlacedClock) -> bool
     requires { IsPlaced (node_view scope.now) k }
@@ -85,7 +85,7 @@ fn fits_inside(scope: &Scope, e: &Expr, k: PlacedClock) -> bool
     }
 }
 
-// Whether a branch of a merge fits the clock of its pattern. The place is that of the merge's variable.
+/// Whether a branch of a merge fits the clock of its pattern. The place is that of the merge's variable.
 #[cycle(fits)]
 fn branch_fits(scope: &Scope, name: &str, place: Option<usize>, pattern: &Pattern, e: &Expr) -> bool
     requires { place ≡ first_place (names_of (declarations_of (node_view scope.now))) name.now }
@@ -96,7 +96,7 @@ fn branch_fits(scope: &Scope, name: &str, place: Option<usize>, pattern: &Patter
     fits_inside(scope, e, PlacedClock { clock, place })
 }
 
-// Whether the branches of a merge fit the clocks of their patterns, and are as many.
+/// Whether the branches of a merge fit the clocks of their patterns, and are as many.
 #[cycle(fits)]
 fn branches_fit(
     scope: &Scope,
@@ -117,7 +117,7 @@ fn branches_fit(
     branches.len() == patterns.len()
 }
 
-// Whether all arguments of a call fit a clock.
+/// Whether all arguments of a call fit a clock.
 #[cycle(fits)]
 fn all_fit(scope: &Scope, arguments: &[Expr], k: PlacedClock) -> bool
     requires { IsPlaced (node_view scope.now) k }
@@ -133,8 +133,8 @@ fn all_fit(scope: &Scope, arguments: &[Expr], k: PlacedClock) -> bool
     true
 }
 
-/// Whether an expression of a node fits a clock whose variable's place is known. The time grows with the length of the expression,
-/// whatever the length of the clock's name. Takes no memory.
+/// Whether an expression of a node fits a clock whose variable's place is known. The time grows with the
+/// length of the expression, whatever the length of the clock's name. Takes no memory.
 pub fn fits_placed(scope: &Scope, e: &Expr, k: PlacedClock) -> bool
     requires { IsPlaced (node_view scope.now) k }
     ensures { IsTrue result ↔ FitsClock (node_view scope.now) (view e.now) (placed_view k.entry) }
@@ -142,8 +142,8 @@ pub fn fits_placed(scope: &Scope, e: &Expr, k: PlacedClock) -> bool
     fits_inside(scope, e, k)
 }
 
-/// Whether an expression of a node fits a clock. The time grows with the length of the expression and of the clock's name. Takes no
-/// memory.
+/// Whether an expression of a node fits a clock. The time grows with the length of the expression and of the
+/// clock's name. Takes no memory.
 pub fn fits(scope: &Scope, e: &Expr, k: ClockRef) -> bool
     ensures { IsTrue result ↔ FitsClock (node_view scope.now) (view e.now) (the_clock k.entry) }
 {

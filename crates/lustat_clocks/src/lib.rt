@@ -2,9 +2,11 @@
 //!
 //! - [`agrees`]: whether the variables on an equation's left have one clock, which its right side fits.
 //! - [`fits`]: whether an expression fits a clock.
-//! - [`chain_ends`], [`is_clock`]: whether the variables of declared clocks have the types of their patterns, in chains that end.
+//! - [`chain_ends`], [`is_clock`]: whether the variables of declared clocks have the types of their patterns,
+//!   in chains that end.
 //! - [`names_clocks`]: whether those of the clocks that an expression names have them.
-//! - [`is_unclocked`], [`main_is_unclocked`], [`calls_unclocked`]: whether inputs and outputs are on the base clock.
+//! - [`is_unclocked`], [`main_is_unclocked`], [`calls_unclocked`]: whether inputs and outputs are on the base
+//!   clock.
 //! - [`declaration_fault`], [`equation_fault`]: the least fault at a place.
 //! - [`clock_fault`]: the least fault of a program. [`all_clock_faults`]: all of them, in order of place.
 //! - [`is_visible`]: whether the clocks of the main node's outputs are inputs or outputs.

@@ -11,7 +11,8 @@ use lubase::Name;
 use lustat_rules::{Catalog, Scope};
 use lutree::{Declaration, Equation, Expr};
 
-/// `E22` at a declaration: an input is on the base clock, and so is an output where the node isn't the main one.
+/// `E22` at a declaration: an input is on the base clock, and so is an output where the node isn't the main
+/// one.
 pub fn is_unclocked(scope: &Scope, declaration: &Declaration, main: &str) -> bool
     ensures { IsTrue result ↔ IsUnclocked main.now (node_view scope.now)
         (declaration_view declaration.now) }
@@ -38,7 +39,7 @@ pub fn is_visible(scope: &Scope, declaration: &Declaration, main: &str) -> bool
     }
 }
 
-// Whether all outputs are on the base clock.
+/// Whether all outputs are on the base clock.
 fn are_unclocked(outputs: &[Declaration]) -> bool
     ensures { IsTrue result ↔ All (λ (d : Declaration). d.clock ≡ base) outputs.now }
 {
@@ -56,14 +57,14 @@ pub fn main_is_unclocked(catalog: &Catalog, main: &str) -> bool
     }
 }
 
-// Whether a name is spelled otherwise.
+/// Whether a name is spelled otherwise.
 fn is_other(f: &Name, name: &str) -> bool
     ensures { IsTrue result ↔ IsOther name.now f.now }
 {
     f.as_str() != name
 }
 
-// Whether no call in an expression is of a node.
+/// Whether no call in an expression is of a node.
 #[cycle(calls)]
 fn calls_no(e: &Expr, name: &str) -> bool
     ensures { IsTrue result ↔ EachCall (IsOther name.now) (view e.now) }
@@ -80,7 +81,7 @@ fn calls_no(e: &Expr, name: &str) -> bool
     }
 }
 
-// Whether no call in the arguments of a call or the branches of a merge is of a node.
+/// Whether no call in the arguments of a call or the branches of a merge is of a node.
 #[cycle(calls)]
 fn all_call_no(arguments: &[Expr], name: &str) -> bool
     ensures { IsTrue result ↔ EachCallOfAll (IsOther name.now) (trees_of (views arguments.now)) }

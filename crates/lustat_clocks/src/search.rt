@@ -16,8 +16,9 @@ use lustat_rules::{Catalog, Scope, Stage, StatError, least_fault};
 use lutree::{Declaration, DeclaredName, Equation, TypeDeclaration};
 use std::alloc::{AllocError, Global};
 
-// The rules of clocks at the places of a program, with the name of its main node, and whether that one has all its outputs on the base
-// clock. The tests of a node share the marks of the declarations whose chains of clocks end.
+/// The rules of clocks at the places of a program, with the name of its main node, and whether that one has
+/// all its outputs on the base clock. The tests of a node share the marks of the declarations whose chains of
+/// clocks end.
 #[derive(Drop)]
 pub(crate) struct ClockStage<'r, 'a> {
     pub(crate) catalog: &'r Catalog<'a>,
@@ -54,7 +55,7 @@ impl<'r, 'a> Stage<'a> for ClockStage<'r, 'a> {
 
     ghost keeps_equation = { λ s. EquationKept is_asked s.catalog.now s.main.now };
 
-    // No rule of clocks speaks of types.
+    /// No rule of clocks speaks of types.
     fn type_fault(&self, _place: usize, _declaration: &TypeDeclaration) -> Option<StatError> {
         None
     }
@@ -78,7 +79,7 @@ impl<'r, 'a> Stage<'a> for ClockStage<'r, 'a> {
         chain_ends(alloc, scope)
     }
 
-    // No rule of clocks speaks of a node alone.
+    /// No rule of clocks speaks of a node alone.
     fn node_fault(&self, _place: usize, _scope: &Scope<'a>) -> Option<StatError> {
         None
     }
@@ -111,8 +112,8 @@ impl<'r, 'a> Stage<'a> for ClockStage<'r, 'a> {
     }
 }
 
-/// The least fault of a program by the rules of clocks: that of the least byte, at equal bytes that of the least number. None where
-/// all these rules are kept. Its time grows with the size of the program.
+/// The least fault of a program by the rules of clocks: that of the least byte, at equal bytes that of the
+/// least number. None where all these rules are kept. Its time grows with the size of the program.
 ///
 /// # Errors
 ///

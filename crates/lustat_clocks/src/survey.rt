@@ -13,7 +13,7 @@ use lutree::{Declaration, DeclaredName, Equation, TypeDeclaration};
 use std::alloc::{AllocError, Global};
 
 impl<'r, 'a> Survey<'a> for ClockStage<'r, 'a> {
-    // No rule of clocks speaks of types.
+    /// No rule of clocks speaks of types.
     fn push_type_faults(
         &self,
         _found: &mut Vec<StatError>,
@@ -34,7 +34,7 @@ impl<'r, 'a> Survey<'a> for ClockStage<'r, 'a> {
         Ok(())
     }
 
-    // No rule of clocks speaks of a node alone.
+    /// No rule of clocks speaks of a node alone.
     fn push_node_faults(
         &self,
         _found: &mut Vec<StatError>,
@@ -76,8 +76,8 @@ impl<'r, 'a> Survey<'a> for ClockStage<'r, 'a> {
     }
 }
 
-/// All faults of a program by the rules of clocks, each once, by byte, at equal bytes by number. The time grows with the size of
-/// the program, and with the count of faults times its logarithm.
+/// All faults of a program by the rules of clocks, each once, by byte, at equal bytes by number. The time
+/// grows with the size of the program, and with the count of faults times its logarithm.
 ///
 /// # Errors
 ///

@@ -18,7 +18,7 @@ pub struct Beginning<'a> {
 }
 
 impl<'a> Beginning<'a> {
-    // Whether the variable has a name, and the pattern is another.
+    /// Whether the variable has a name, and the pattern is another.
     fn is(&self, name: &str, pattern: &PatternRef) -> bool
         ensures { IsTrue result ↔ (begun_view self.now
             ≡ record { name = name.now; pattern = the_pattern pattern.now }) }
@@ -27,7 +27,7 @@ impl<'a> Beginning<'a> {
     }
 }
 
-// The pattern whose constant an expression is.
+/// The pattern whose constant an expression is.
 fn pattern_of(e: &Expr) -> Option<PatternRef<'_>>
     ensures { option_map the_pattern result ≡ pattern_of (view e.now) }
 {
@@ -38,7 +38,7 @@ fn pattern_of(e: &Expr) -> Option<PatternRef<'_>>
     }
 }
 
-// The pattern whose constant an expression begins with, by `->` or `fby`.
+/// The pattern whose constant an expression begins with, by `->` or `fby`.
 fn start_of(e: &Expr) -> Option<PatternRef<'_>>
     ensures { option_map the_pattern result ≡ start_of (view e.now) }
 {
@@ -52,7 +52,7 @@ fn start_of(e: &Expr) -> Option<PatternRef<'_>>
     }
 }
 
-// The variable that an equation defines alone, if it begins with a constant.
+/// The variable that an equation defines alone, if it begins with a constant.
 fn beginning_of(equation: &Equation) -> Option<Beginning<'_>>
     ensures { option_to_list (option_map begun_view result)
         ≡ begun_of (equation_view equation.now) }
@@ -69,7 +69,7 @@ fn beginning_of(equation: &Equation) -> Option<Beginning<'_>>
     }
 }
 
-// Those of some equations, in order.
+/// Those of some equations, in order.
 fn beginnings_of(alloc: Global, equations: &[Equation]) -> Result<Vec<Beginning<'_>>, AllocError>
     ensures { IfOk result
         (λ all. map begun_view all.items ≡ all_begun (map equation_view equations.now)) }
@@ -83,7 +83,7 @@ fn beginnings_of(alloc: Global, equations: &[Equation]) -> Result<Vec<Beginning<
     Ok(all)
 }
 
-// The table of the variables.
+/// The table of the variables.
 fn names_of<'a>(alloc: Global, all: &[Beginning<'a>]) -> Result<Places<'a>, AllocError>
     ensures { IfOk result (λ names. names ≡ spelled all.now) }
 {
@@ -94,7 +94,7 @@ fn names_of<'a>(alloc: Global, all: &[Beginning<'a>]) -> Result<Places<'a>, Allo
     Places::new(alloc, names)
 }
 
-// Whether no variable stands twice.
+/// Whether no variable stands twice.
 fn are_once(names: &Places, all: &[Beginning]) -> bool
     requires { names.now ≡ spelled all.now }
     ensures { IsTrue result → AreDistinct (spelled all.now) }
@@ -108,8 +108,8 @@ fn are_once(names: &Places, all: &[Beginning]) -> bool
     true
 }
 
-/// The equations of a node that begin with a constant, with a table of the variables that they define. A look-up looks at one of
-/// them, but where a variable has several.
+/// The equations of a node that begin with a constant, with a table of the variables that they define. A
+/// look-up looks at one of them, but where a variable has several.
 #[derive(Drop)]
 pub struct BeginningTable<'a> {
     all: Vec<Beginning<'a>>,
@@ -135,7 +135,8 @@ impl<'a> BeginningTable<'a> {
         })
     }
 
-    // Whether some equation defines a variable alone and begins with the constant of a pattern, by a look at all of them.
+    /// Whether some equation defines a variable alone and begins with the constant of a pattern, by a look at
+    /// all of them.
     fn has_among(&self, name: &str, pattern: &PatternRef) -> bool
         ensures { IsTrue result ↔ Contains (map begun_view self.now.all.items)
             (record { name = name.now; pattern = the_pattern pattern.now }) }

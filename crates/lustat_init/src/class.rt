@@ -8,7 +8,8 @@ ghost use Rattle.lustat_init.specs.Assigned.{assigned};
 use lustat_rules::Scope;
 use lutree::{Expr, Infix, Prefix};
 
-/// The class of a variable: the mark at the place of its declaration; false, which is class 0, where it isn't declared or has no mark.
+/// The class of a variable: the mark at the place of its declaration; false, which is class 0, where it isn't
+/// declared or has no mark.
 pub fn class_of(scope: &Scope, marks: &[bool], name: &str) -> bool
     ensures { result ≡ assigned (node_view scope.now) marks.now name.now }
 {
@@ -18,7 +19,8 @@ pub fn class_of(scope: &Scope, marks: &[bool], name: &str) -> bool
     }
 }
 
-/// Whether an expression is of class 1, where the variables have the classes that `marks` gives by place of declaration. Takes no memory.
+/// Whether an expression is of class 1, where the variables have the classes that `marks` gives by place of
+/// declaration. Takes no memory.
 pub fn is_one(scope: &Scope, marks: &[bool], e: &Expr) -> bool
     ensures { result ≡ is_one (assigned (node_view scope.now) marks.now) (view e.now) }
 {
@@ -36,11 +38,11 @@ pub fn is_one(scope: &Scope, marks: &[bool], e: &Expr) -> bool
     }
 }
 
-/// Whether what an expression needs in class 0 is there: what stands after `pre`, on the right of `fby` and in a branch of `merge`, the
-/// variable after `current`, and the arguments of calls. Takes no memory.
+/// Whether what an expression needs in class 0 is there: what stands after `pre`, on the right of `fby` and
+/// in a branch of `merge`, the variable after `current`, and the arguments of calls. Takes no memory.
 ///
-/// The time grows with the length of the expression: a class never comes from behind what needs one, so no part is looked at
-/// for more than one need.
+/// The time grows with the length of the expression: a class never comes from behind what needs one, so no
+/// part is looked at for more than one need.
 #[cycle(needs)]
 pub fn needs_met(scope: &Scope, marks: &[bool], e: &Expr) -> bool
     ensures { IsTrue result ↔ NeedsMet (assigned (node_view scope.now) marks.now) (view e.now) }
@@ -63,7 +65,7 @@ pub fn needs_met(scope: &Scope, marks: &[bool], e: &Expr) -> bool
     }
 }
 
-// Whether all arguments of a call or branches of a merge are of class 0 and have what they need.
+/// Whether all arguments of a call or branches of a merge are of class 0 and have what they need.
 #[cycle(needs)]
 fn all_ready(scope: &Scope, marks: &[bool], arguments: &[Expr]) -> bool
     ensures { IsTrue result

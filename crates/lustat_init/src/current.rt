@@ -13,7 +13,7 @@ use lutree::{Declaration, Equation, Expr, Node};
 use std::alloc::{AllocError, Global};
 use std::marker::Model;
 
-// Whether the clock of a declaration, if it has one, is true at first.
+/// Whether the clock of a declaration, if it has one, is true at first.
 fn starts_by(table: &BeginningTable, declaration: &Declaration) -> bool
     ensures { IsTrue result
         ↔ IsBegun (map begun_view table.now.all.items) declaration.now.clock }
@@ -24,7 +24,7 @@ fn starts_by(table: &BeginningTable, declaration: &Declaration) -> bool
     }
 }
 
-// For each of some declarations whether its clock is true at first.
+/// For each of some declarations whether its clock is true at first.
 fn starts_of(
     alloc: Global,
     table: &BeginningTable,
@@ -40,7 +40,8 @@ fn starts_of(
     Ok(marks)
 }
 
-/// For each declaration of a node whether its clock is true at first, by the form of the equations. A contract sees the node.
+/// For each declaration of a node whether its clock is true at first, by the form of the equations. A
+/// contract sees the node.
 pub struct Firsts<'a> {
     node: &'a Node,
     started: Vec<bool>,
@@ -87,7 +88,7 @@ impl<'a> Firsts<'a> {
         Ok(Firsts { node, started })
     }
 
-    // Whether the clock of a variable is true at first, if it has one. The clock's name isn't looked at.
+    /// Whether the clock of a variable is true at first, if it has one. The clock's name isn't looked at.
     fn starts(&self, scope: &Scope, name: &str) -> bool
         requires { scope.now ≡ self.now }
         ensures { IsTrue result ↔ IsStarted (node_view self.now) name.now }
@@ -98,7 +99,7 @@ impl<'a> Firsts<'a> {
         }
     }
 
-    // Whether all uses of `current` in an expression are of variables whose clocks are true at first.
+    /// Whether all uses of `current` in an expression are of variables whose clocks are true at first.
     #[cycle(currents)]
     fn all_start(&self, scope: &Scope, e: &Expr) -> bool
         requires { scope.now ≡ self.now }
@@ -118,7 +119,7 @@ impl<'a> Firsts<'a> {
         }
     }
 
-    // Whether each `current` in the arguments of a call or the branches of a merge starts.
+    /// Whether each `current` in the arguments of a call or the branches of a merge starts.
     #[cycle(currents)]
     fn arguments_start(&self, scope: &Scope, arguments: &[Expr]) -> bool
         requires { scope.now ≡ self.now }
@@ -134,8 +135,9 @@ impl<'a> Firsts<'a> {
         true
     }
 
-    /// `E31`: whether `current` stands in an equation only before variables whose clock is true at first. `scope` is the same node's.
-    /// The time grows with the length of the equation, whatever the length of the clocks' names. Takes no memory.
+    /// `E31`: whether `current` stands in an equation only before variables whose clock is true at first.
+    /// `scope` is the same node's. The time grows with the length of the equation, whatever the length of the
+    /// clocks' names. Takes no memory.
     pub fn currents_start(&self, scope: &Scope, equation: &Equation) -> bool
         requires { scope.now ≡ self.now }
         ensures { IsTrue result ↔ CurrentsStart (node_view self.now) (equation_view equation.now) }

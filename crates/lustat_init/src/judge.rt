@@ -13,7 +13,7 @@ use lustat_rules::{Places, Scope};
 use lutree::{Declaration, Equation, Expr};
 use std::alloc::{AllocError, Global};
 
-// The name in a declared clock.
+/// The name in a declared clock.
 fn clock_name(declaration: &Declaration) -> Option<&str>
     ensures { option_to_list (option_copied result) ≡ clock_names_of declaration.now.clock }
 {
@@ -23,7 +23,7 @@ fn clock_name(declaration: &Declaration) -> Option<&str>
     }
 }
 
-// The names in declared clocks.
+/// The names in declared clocks.
 fn names_of_clocks<'a>(
     alloc: Global,
     declarations: &[&'a Declaration],
@@ -40,7 +40,7 @@ fn names_of_clocks<'a>(
     Ok(names)
 }
 
-// What `when` or `merge` names, behind what was named before.
+/// What `when` or `merge` names, behind what was named before.
 fn push_sampler<'a>(names: &mut Vec<&'a str>, name: &'a str) -> Result<(), AllocError>
     ensures { OnOk result
         (spelled names.new.items ≡ spelled names.old.items ++ name.now ∷ []) }
@@ -49,7 +49,7 @@ fn push_sampler<'a>(names: &mut Vec<&'a str>, name: &'a str) -> Result<(), Alloc
     Ok(())
 }
 
-// What `when` and `merge` name in an expression, behind what was named before.
+/// What `when` and `merge` name in an expression, behind what was named before.
 #[cycle(samplers)]
 fn push_samplers<'a>(names: &mut Vec<&'a str>, e: &'a Expr) -> Result<(), AllocError>
     ensures { OnOk result
@@ -80,7 +80,7 @@ fn push_samplers<'a>(names: &mut Vec<&'a str>, e: &'a Expr) -> Result<(), AllocE
     }
 }
 
-// Puts the samplers in the arguments of a call or the branches of a merge behind others.
+/// Puts the samplers in the arguments of a call or the branches of a merge behind others.
 #[cycle(samplers)]
 fn push_samplers_of_all<'a>(
     names: &mut Vec<&'a str>,
@@ -95,7 +95,7 @@ fn push_samplers_of_all<'a>(
     Ok(())
 }
 
-// Puts the samplers on the right of equations behind others.
+/// Puts the samplers on the right of equations behind others.
 fn push_samplers_of_equations<'a>(
     names: &mut Vec<&'a str>,
     equations: &'a [Equation],
@@ -109,8 +109,8 @@ fn push_samplers_of_equations<'a>(
     Ok(())
 }
 
-/// The variables of a node that the clocks of declarations, `when` and `merge` name, with a table of them. The time grows with
-/// the length of the node.
+/// The variables of a node that the clocks of declarations, `when` and `merge` name, with a table of them.
+/// The time grows with the length of the node.
 ///
 /// # Errors
 ///
@@ -123,7 +123,7 @@ pub fn clocks_named<'a>(alloc: Global, scope: &Scope<'a>) -> Result<Places<'a>, 
     Places::new(alloc, names)
 }
 
-// Whether a variable is no input and no output, and no clock names it.
+/// Whether a variable is no input and no output, and no clock names it.
 fn is_free(scope: &Scope, named: &Places, name: &str) -> bool
     requires { named.now ≡ clock_variables (node_view scope.now) }
     ensures { IsTrue result ↔ IsFree (node_view scope.now) name.now }
@@ -137,7 +137,7 @@ fn is_free(scope: &Scope, named: &Places, name: &str) -> bool
     !named.has(name)
 }
 
-// Whether all variables are no inputs and no outputs, and no clock names one of them.
+/// Whether all variables are no inputs and no outputs, and no clock names one of them.
 fn are_free(scope: &Scope, named: &Places, names: &[Name]) -> bool
     requires { named.now ≡ clock_variables (node_view scope.now) }
     ensures { IsTrue result ↔ All (IsFree (node_view scope.now)) names.now }
@@ -151,9 +151,10 @@ fn are_free(scope: &Scope, named: &Places, names: &[Name]) -> bool
     true
 }
 
-/// Whether an equation keeps the rules of classes: what its right side needs in class 0 is there, and where it is of class 1 it defines
-/// no input, no output and no variable that a clock names. `classes` are the marks by place of declaration, `named` is what
-/// [`clocks_named`] gives. The time grows with the length of the equation. Takes no memory.
+/// Whether an equation keeps the rules of classes: what its right side needs in class 0 is there, and where
+/// it is of class 1 it defines no input, no output and no variable that a clock names. `classes` are the
+/// marks by place of declaration, `named` is what [`clocks_named`] gives. The time grows with the length of
+/// the equation. Takes no memory.
 pub fn keeps_classes(scope: &Scope, classes: &[bool], named: &Places, equation: &Equation) -> bool
     requires { named.now ≡ clock_variables (node_view scope.now) }
     ensures { IsTrue result

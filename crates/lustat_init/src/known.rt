@@ -11,28 +11,28 @@ use lubase::Name;
 use lustat_rules::{Catalog, Scope};
 use lutree::Equation;
 
-// Whether a name is declared.
+/// Whether a name is declared.
 fn is_known(scope: &Scope, name: &str) -> bool
     ensures { IsTrue result ↔ IsVariable (node_view scope.now) name.now }
 {
     scope.find(name).is_some()
 }
 
-// Whether names are declared.
+/// Whether names are declared.
 fn are_known(scope: &Scope, names: &[Name]) -> bool
     ensures { IsTrue result ↔ All (IsVariable (node_view scope.now)) names.now }
 {
     names.iter().all(|x| is_known(scope, x.as_str()))
 }
 
-// Whether what an equation defines is declared.
+/// Whether what an equation defines is declared.
 fn left_is_known(scope: &Scope, equation: &Equation) -> bool
     ensures { IsTrue result ↔ All (IsVariable (node_view scope.now)) equation.now.left }
 {
     are_known(scope, equation.left.as_slice())
 }
 
-// Whether what equations define is declared.
+/// Whether what equations define is declared.
 fn all_known(scope: &Scope, equations: &[Equation]) -> bool
     ensures { IsTrue result ↔ All (λ (q : Equation). All (IsVariable (node_view scope.now)) q.left)
         equations.now }
@@ -40,23 +40,23 @@ fn all_known(scope: &Scope, equations: &[Equation]) -> bool
     equations.iter().all(|q| left_is_known(scope, q))
 }
 
-/// Whether all variables that the equations of a node define are declared, as [`crate::least_classes`] asks. A node that keeps the rules of names
-/// has no others. Takes no memory.
+/// Whether all variables that the equations of a node define are declared, as [`crate::least_classes`] asks.
+/// A node that keeps the rules of names has no others. Takes no memory.
 pub fn lefts_are_known(scope: &Scope) -> bool
     ensures { IsTrue result ↔ LeftsKnown (node_view scope.now) }
 {
     all_known(scope, scope.node().equations.as_slice())
 }
 
-// Whether what the equations of nodes define is declared.
+/// Whether what the equations of nodes define is declared.
 fn scopes_known(scopes: &[Scope]) -> bool
     ensures { IsTrue result ↔ All (λ (n : Node). LeftsKnown (node_view n)) scopes.now }
 {
     scopes.iter().all(|scope| lefts_are_known(scope))
 }
 
-/// Whether all variables that the equations of a program define are declared, as [`crate::initialise`] asks. A program that keeps the
-/// rules of names has no others. Takes no memory.
+/// Whether all variables that the equations of a program define are declared, as [`crate::initialise`] asks.
+/// A program that keeps the rules of names has no others. Takes no memory.
 pub fn all_lefts_known(catalog: &Catalog) -> bool
     ensures { IsTrue result ↔ All LeftsKnown (program_view catalog.now).nodes }
 {

@@ -12,7 +12,7 @@ use lustat_rules::Scope;
 use lutree::{Equation, Expr, Infix, Prefix};
 use std::alloc::{AllocError, Global};
 
-// A link from a variable to an equation.
+/// A link from a variable to an equation.
 fn push_read(
     links: &mut Vec<Link>,
     scope: &Scope,
@@ -31,7 +31,7 @@ fn push_read(
     Ok(())
 }
 
-// Links to an equation from the variables that its right side takes its class from.
+/// Links to an equation from the variables that its right side takes its class from.
 fn push_reads(
     links: &mut Vec<Link>,
     scope: &Scope,
@@ -60,7 +60,7 @@ fn push_reads(
     }
 }
 
-// A link from an equation to a variable.
+/// A link from an equation to a variable.
 fn push_write(
     links: &mut Vec<Link>,
     scope: &Scope,
@@ -79,7 +79,7 @@ fn push_write(
     Ok(())
 }
 
-// Links from an equation to the variables that it defines.
+/// Links from an equation to the variables that it defines.
 fn push_writes(
     links: &mut Vec<Link>,
     scope: &Scope,
@@ -95,7 +95,7 @@ fn push_writes(
     Ok(())
 }
 
-// The links of one equation.
+/// The links of one equation.
 fn push_equation(
     links: &mut Vec<Link>,
     scope: &Scope,
@@ -110,7 +110,7 @@ fn push_equation(
     push_writes(links, scope, equation.left.as_slice(), number)
 }
 
-// The links of equations, known by the numbers from `first` on.
+/// The links of equations, known by the numbers from `first` on.
 fn links_of(
     alloc: Global,
     scope: &Scope,
@@ -128,7 +128,7 @@ fn links_of(
     Ok(links)
 }
 
-// The equations that are of class 1 by themselves, known by the numbers from `first` on.
+/// The equations that are of class 1 by themselves, known by the numbers from `first` on.
 fn starts_of(
     alloc: Global,
     scope: &Scope,
@@ -148,9 +148,9 @@ fn starts_of(
     Ok(starts)
 }
 
-/// The least classes of a node's variables that aren't below those of their right sides, by place of declaration: true is class 1.
-/// Behind them stand the classes of the right sides, by place of equation.
-/// The time grows with the length of the node.
+/// The least classes of a node's variables that aren't below those of their right sides, by place of
+/// declaration: true is class 1. Behind them stand the classes of the right sides, by place of equation. The
+/// time grows with the length of the node.
 ///
 /// # Errors
 ///

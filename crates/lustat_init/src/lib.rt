@@ -6,8 +6,8 @@
 //! - [`lefts_are_known`], [`all_lefts_known`]: whether what equations define is declared.
 //! - [`least_classes`]: the least classes of a node's variables.
 //! - [`clocks_named`], [`keeps_classes`]: whether an equation keeps the rules of classes.
-//! - [`initialise`], [`Initialised`]: whether a program keeps these rules: the classes of each node, or the fault that
-//!   is reported.
+//! - [`initialise`], [`Initialised`]: whether a program keeps these rules: the classes of each node, or the
+//!   fault that is reported.
 //! - [`all_class_faults`]: all faults by these rules, in order of place.
 //! - [`laws`]: what the least classes decide.
 //!
@@ -15,8 +15,8 @@
 //!
 //! A node may use `current` only of variables whose clocks are true at first.
 //!
-//! - [`Firsts`]: which clocks are true at first, by the form of their equations, and which uses of `current` that
-//!   allows.
+//! - [`Firsts`]: which clocks are true at first, by the form of their equations, and which uses of `current`
+//!   that allows.
 #![tactic(auto)]
 
 mod begun;

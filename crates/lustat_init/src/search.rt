@@ -21,15 +21,15 @@ use std::alloc::{AllocError, Global};
 /// What [`initialise`] finds.
 #[derive(Drop)]
 pub enum Initialised {
-    /// The classes of each node, in order of text: for each a mark by place of declaration, true for class 1. Behind the marks of a
-    /// node's variables stand others.
+    /// The classes of each node, in order of text: for each a mark by place of declaration, true for class 1.
+    /// Behind the marks of a node's variables stand others.
     Kept(Vec<Vec<bool>>),
     /// The fault that is reported.
     Broken(StatError),
 }
 
-// What the tests of the equations of a node share: the variables that clocks name, those that are true or false at first, and the marks
-// of the node's least classes.
+/// What the tests of the equations of a node share: the variables that clocks name, those that are true or
+/// false at first, and the marks of the node's least classes.
 #[derive(Drop)]
 pub(crate) struct Prepared<'r, 'a> {
     pub(crate) named: Places<'a>,
@@ -37,7 +37,7 @@ pub(crate) struct Prepared<'r, 'a> {
     pub(crate) marks: &'r [bool],
 }
 
-// The faults of an equation, rule by rule.
+/// The faults of an equation, rule by rule.
 pub(crate) fn equation_faults(
     prepared: &Prepared,
     scope: &Scope,
@@ -55,7 +55,7 @@ pub(crate) fn equation_faults(
     [nil, current]
 }
 
-// The rules of initialisation at the equations of nodes, with marks of the least classes for each node.
+/// The rules of initialisation at the equations of nodes, with marks of the least classes for each node.
 #[derive(Drop)]
 pub(crate) struct ClassStage<'r, 'a> {
     pub(crate) catalog: &'r Catalog<'a>,
@@ -147,7 +147,7 @@ impl<'r, 'a> Stage<'a> for ClassStage<'r, 'a> {
     }
 }
 
-// The least classes of nodes, in order.
+/// The least classes of nodes, in order.
 pub(crate) fn rows_of(alloc: Global, scopes: &[Scope]) -> Result<Vec<Vec<bool>>, AllocError>
     requires { All (λ (n : Node). LeftsKnown (node_view n)) scopes.now }
     ensures { IfOk result
@@ -161,7 +161,7 @@ pub(crate) fn rows_of(alloc: Global, scopes: &[Scope]) -> Result<Vec<Vec<bool>>,
     Ok(rows)
 }
 
-// The least fault of nodes.
+/// The least fault of nodes.
 fn nodes_fault(
     alloc: Global,
     catalog: &Catalog,
@@ -173,11 +173,12 @@ fn nodes_fault(
     least_fault(alloc, &ClassStage { catalog, rows }, catalog)
 }
 
-/// Whether a program keeps the rules of initialisation: the least classes of each node, or the least fault, that of the least byte,
-/// at equal bytes that of the least number. Classes are checked at each equation with the least classes of its node.
+/// Whether a program keeps the rules of initialisation: the least classes of each node, or the least fault,
+/// that of the least byte, at equal bytes that of the least number. Classes are checked at each equation with
+/// the least classes of its node.
 ///
-/// What the equations define has to be declared, as the rules of names ask ([`crate::laws::lefts_law`]). The time grows with the
-/// size of the program.
+/// What the equations define has to be declared, as the rules of names ask ([`crate::laws::lefts_law`]). The
+/// time grows with the size of the program.
 ///
 /// # Errors
 ///

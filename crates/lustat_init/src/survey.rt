@@ -13,7 +13,7 @@ use lutree::{Declaration, DeclaredName, Equation, TypeDeclaration};
 use std::alloc::{AllocError, Global};
 
 impl<'r, 'a> Survey<'a> for ClassStage<'r, 'a> {
-    // No rule of initialisation is reported at a type, at a node or at a declaration.
+    /// No rule of initialisation is reported at a type, at a node or at a declaration.
     fn push_type_faults(
         &self,
         _found: &mut Vec<StatError>,
@@ -67,7 +67,7 @@ impl<'r, 'a> Survey<'a> for ClassStage<'r, 'a> {
     }
 }
 
-// All faults of nodes.
+/// All faults of nodes.
 fn all_of_nodes(
     alloc: Global,
     catalog: &Catalog,
@@ -79,11 +79,11 @@ fn all_of_nodes(
     all_faults(alloc, &ClassStage { catalog, rows }, catalog)
 }
 
-/// All faults of a program by the rules of initialisation, each once, by byte, at equal bytes by number. Classes are checked at each
-/// equation with the least classes of its node.
+/// All faults of a program by the rules of initialisation, each once, by byte, at equal bytes by number.
+/// Classes are checked at each equation with the least classes of its node.
 ///
-/// What the equations define has to be declared, as the rules of names ask ([`crate::laws::lefts_law`]). The time grows with the
-/// size of the program, and with the count of faults times its logarithm.
+/// What the equations define has to be declared, as the rules of names ask ([`crate::laws::lefts_law`]). The
+/// time grows with the size of the program, and with the count of faults times its logarithm.
 ///
 /// # Errors
 ///

@@ -13,8 +13,8 @@ use lutree::{DeclaredName, Node, Program, TypeDeclaration};
 use std::alloc::{AllocError, Global};
 use std::marker::Model;
 
-/// A program, lent, with a scope for each of its nodes and tables of its nodes, its types and the names of these. A contract sees
-/// the program.
+/// A program, lent, with a scope for each of its nodes and tables of its nodes, its types and the names of
+/// these. A contract sees the program.
 pub struct Catalog<'a> {
     program: &'a Program,
     scopes: Vec<Scope<'a>>,
@@ -56,7 +56,7 @@ impl<'a> Model for Catalog<'a> {
     ghost invariant = { IsCatalog };
 }
 
-// The scopes of nodes, in order.
+/// The scopes of nodes, in order.
 fn scopes_of(alloc: Global, nodes: &[Node]) -> Result<Vec<Scope<'_>>, AllocError>
     ensures { IfOk result (λ v. v.items ≡ nodes.now) }
 {
@@ -67,7 +67,7 @@ fn scopes_of(alloc: Global, nodes: &[Node]) -> Result<Vec<Scope<'_>>, AllocError
     Ok(scopes)
 }
 
-// The table of the names of nodes.
+/// The table of the names of nodes.
 fn places_of_nodes(alloc: Global, nodes: &[Node]) -> Result<Places<'_>, AllocError>
     ensures { IfOk result (λ places. places ≡ node_spellings nodes.now) }
 {
@@ -78,7 +78,7 @@ fn places_of_nodes(alloc: Global, nodes: &[Node]) -> Result<Places<'_>, AllocErr
     Places::new(alloc, names)
 }
 
-// The table of the names of types.
+/// The table of the names of types.
 fn places_of_types(alloc: Global, types: &[TypeDeclaration]) -> Result<Places<'_>, AllocError>
     ensures { IfOk result (λ places. places ≡ type_spellings types.now) }
 {
@@ -89,7 +89,7 @@ fn places_of_types(alloc: Global, types: &[TypeDeclaration]) -> Result<Places<'_
     Places::new(alloc, names)
 }
 
-// The names of an enumeration, behind those before.
+/// The names of an enumeration, behind those before.
 fn push_labels<'a>(names: &mut Vec<&'a str>, declared: &'a [DeclaredName]) -> Result<(), AllocError>
     ensures { OnOk result (map (λ n. n.now) names.new.items ≡ map (λ n. n.now) names.old.items
         ++ label_spellings declared.now) }
@@ -100,7 +100,7 @@ fn push_labels<'a>(names: &mut Vec<&'a str>, declared: &'a [DeclaredName]) -> Re
     Ok(())
 }
 
-// The names of all enumerations in a row, and where each type's begin.
+/// The names of all enumerations in a row, and where each type's begin.
 fn fill<'a>(
     names: &mut Vec<&'a str>,
     starts: &mut Vec<usize>,
@@ -188,7 +188,7 @@ impl<'a> Catalog<'a> {
         self.labels.has(name)
     }
 
-    // Where the names of the type at a place begin in the row of all.
+    /// Where the names of the type at a place begin in the row of all.
     fn start(&self, place: usize) -> usize
         requires { place < length self.now.types }
         ensures { result ≡ length (labels_of (take place (program_view self.now).types)) }
@@ -196,7 +196,7 @@ impl<'a> Catalog<'a> {
         self.starts[place]
     }
 
-    // Whether a name stands first in the row of all at a place, counted from another.
+    /// Whether a name stands first in the row of all at a place, counted from another.
     fn stands_first(&self, start: usize, number: usize, name: &str) -> bool
         ensures { IsTrue result ↔ (first_place (labels_of (program_view self.now).types) name.now
             ≡ Some (start + number)) }

@@ -12,7 +12,7 @@ pub enum PatternRef<'a> {
     Label(&'a Label),
 }
 
-// Whether two names of enumerations are one: of one spelling, of one type and of one number.
+/// Whether two names of enumerations are one: of one spelling, of one type and of one number.
 fn is_label(l: &Label, m: &Label) -> bool
     ensures { IsTrue result ↔ (l.now ≡ m.now) }
 {
@@ -72,8 +72,8 @@ impl<'a> ClockRef<'a> {
     }
 }
 
-/// A clock, lent, and where its variable is declared first in a node; no place where it has no variable, or none that is declared.
-/// Places are compared in place of names, however long those are.
+/// A clock, lent, and where its variable is declared first in a node; no place where it has no variable, or
+/// none that is declared. Places are compared in place of names, however long those are.
 #[derive(Clone, Copy)]
 pub struct PlacedClock<'a> {
     pub clock: ClockRef<'a>,

@@ -8,25 +8,27 @@ use std::alloc::{AllocError, AllocFailed};
 use std::fmt;
 use thiserror::Error;
 
-/// Why the static checks refuse a program. What it displays is the line that the program prints. A byte is a place in the
-/// text, counted from 0.
+/// Why the static checks refuse a program. What it displays is the line that the program prints. A byte is a
+/// place in the text, counted from 0.
 #[derive(Clone, Copy, Debug, PartialEq, Eq, Error)]
 pub enum StatError {
-    /// Two types, two names of enumerations, two nodes, or two variables of a node, have one name, or a variable has that of a name
-    /// of an enumeration. Reported at the later name, or at the variable.
+    /// Two types, two names of enumerations, two nodes, or two variables of a node, have one name, or a
+    /// variable has that of a name of an enumeration. Reported at the later name, or at the variable.
     DuplicateName { byte: usize },
-    /// A name is no variable of the node, no type, or no name of an enumeration. Reported at the equation, or at the variable whose type or
-    /// clock it is.
+    /// A name is no variable of the node, no type, or no name of an enumeration. Reported at the equation, or
+    /// at the variable whose type or clock it is.
     UnknownName { byte: usize },
     /// A call is of no node. Reported at the equation.
     UnknownNode { byte: usize },
-    /// An equation whose names, calls, arities and merges are in order is ill typed. Reported at the equation.
+    /// An equation whose names, calls, arities and merges are in order is ill typed. Reported at the
+    /// equation.
     TypeMismatch { byte: usize },
     /// A call has another number of arguments, or of outputs, than it needs. Reported at the equation.
     WrongArity { byte: usize },
     /// An output or a local has no equation. Reported at its declaration.
     Undefined { byte: usize },
-    /// An equation defines a variable that another one defines, one twice, or an input. Reported at the later equation.
+    /// An equation defines a variable that another one defines, one twice, or an input. Reported at the later
+    /// equation.
     DefinedTwice { byte: usize },
     /// A node reaches itself by calls. Reported at its name.
     RecursiveNode { byte: usize },
@@ -36,15 +38,16 @@ pub enum StatError {
     BadMerge { byte: usize },
     /// A right side doesn't fit the clock of what it defines. Reported at the equation.
     ClockMismatch { byte: usize },
-    /// The variable of a clock or of a merge isn't of its type, or its chain of clocks doesn't end. Reported at the equation or the
-    /// declaration.
+    /// The variable of a clock or of a merge isn't of its type, or its chain of clocks doesn't end. Reported
+    /// at the equation or the declaration.
     NotAClock { byte: usize },
-    /// A parameter has a clock where it may have none. Reported at its declaration, or at the equation that calls.
+    /// A parameter has a clock where it may have none. Reported at its declaration, or at the equation that
+    /// calls.
     ClockedParameter { byte: usize },
     /// An output of the main node has a clock that a local names. Reported at its declaration.
     HiddenClock { byte: usize },
-    /// A value may be missing where it is needed. Reported at the equation with the operand that may be missing, or that defines the
-    /// output or the variable that a clock names.
+    /// A value may be missing where it is needed. Reported at the equation with the operand that may be
+    /// missing, or that defines the output or the variable that a clock names.
     MaybeNil { byte: usize },
     /// `current` of a variable whose clock may be false at first. Reported at the equation.
     CurrentMayBeNil { byte: usize },

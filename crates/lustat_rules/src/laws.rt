@@ -89,8 +89,8 @@ pub fn call_vectors_law()
     ensures { CallVectors }
 {}
 
-/// The class of each form, where class 0 is needed and where it isn't, and which variables stand after `when`, `merge` and
-/// `current`.
+/// The class of each form, where class 0 is needed and where it isn't, and which variables stand after
+/// `when`, `merge` and `current`.
 pub fn class_vectors_law()
     ensures { ClassVectors }
 {}
@@ -100,7 +100,8 @@ pub fn beginning_vectors_law()
     ensures { BeginningVectors }
 {}
 
-/// Names of enumerations: their types, equal names, names that aren't known, and merges of all names and of others.
+/// Names of enumerations: their types, equal names, names that aren't known, and merges of all names and of
+/// others.
 pub fn enum_vectors_law()
     ensures { EnumVectors }
 {}

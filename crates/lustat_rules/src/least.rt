@@ -19,7 +19,8 @@ pub fn is_reported_before(x: &StatError, y: &StatError) -> bool
     x.byte() < y.byte() || x.byte() == y.byte() && x.number() < y.number()
 }
 
-/// Of two faults, where there are any, the one of the lesser byte, at equal bytes the one of the lesser number.
+/// Of two faults, where there are any, the one of the lesser byte, at equal bytes the one of the lesser
+/// number.
 pub fn lesser(a: Option<StatError>, b: Option<StatError>) -> Option<StatError>
     ensures { result ≡ lesser_of a b }
 {

@@ -1,5 +1,5 @@
-//! The static rules of programs, as definitions over the tree; what a refusal reports; and what the stages of the
-//! static checks share: names looked up by tables, one search for the least fault, and one for all.
+//! The static rules of programs, as definitions over the tree; what a refusal reports; and what the stages of
+//! the static checks share: names looked up by tables, one search for the least fault, and one for all.
 //!
 //! # The rules
 //!
@@ -23,8 +23,8 @@
 //! - [`Scope`]: a node with the tables of its variables.
 //! - [`Catalog`]: a program with a scope for each node and tables of the names of its nodes, its types and
 //!   enumerations.
-//! - [`ClockRef`]: a clock, lent. [`PatternRef`]: its pattern, lent. [`PlacedClock`]: a clock, lent, with the place of
-//!   its variable.
+//! - [`ClockRef`]: a clock, lent. [`PatternRef`]: its pattern, lent. [`PlacedClock`]: a clock, lent, with the
+//!   place of its variable.
 //! - [`Stage`]: a stage of the static checks: its tests of types, names, nodes, declarations and equations.
 //! - [`least_fault`]: the least fault that a stage finds.
 //!
@@ -40,7 +40,8 @@
 //! - [`push_fault`], [`push_each`]: the fault of one rule, those of several.
 //! - [`least_of`]: of the faults of several rules the one that is reported.
 //!
-//! What all faults are stands in `specs/AllFaults.antt`, what a row of rules tells of a place in `specs/Told.antt`.
+//! What all faults are stands in `specs/AllFaults.antt`, what a row of rules tells of a place in
+//! `specs/Told.antt`.
 #![tactic(auto)]
 
 mod catalog;

@@ -7,15 +7,15 @@ ghost use Rattle.lustat_rules.specs.AllFaults.{AreAllFaults};
 use crate::StatError;
 use std::alloc::AllocError;
 
-// Whether two faults have one byte and one number.
+/// Whether two faults have one byte and one number.
 fn is_same_place(x: &StatError, y: &StatError) -> bool
     ensures { result ≡ ((byte_of x.now == byte_of y.now) && (number_of x.now == number_of y.now)) }
 {
     x.byte() == y.byte() && x.number() == y.number()
 }
 
-/// The faults of a list, each once, in order of place: by byte, at equal bytes by number. The time grows with their count times
-/// its logarithm.
+/// The faults of a list, each once, in order of place: by byte, at equal bytes by number. The time grows with
+/// their count times its logarithm.
 ///
 /// # Errors
 ///

@@ -7,7 +7,8 @@ ghost use Rattle.lustat_rules.specs.Told.{least_in};
 use crate::{StatError, lesser};
 use std::alloc::AllocError;
 
-/// Of the faults in a row, if there are any, the one of the least byte, at equal bytes the one of the least number.
+/// Of the faults in a row, if there are any, the one of the least byte, at equal bytes the one of the least
+/// number.
 pub fn least_of(row: &[Option<StatError>]) -> Option<StatError>
     ensures { result ≡ least_in row.now }
 {

@@ -55,7 +55,7 @@ impl<'a> Model for Scope<'a> {
     ghost invariant = { AreTables };
 }
 
-// Declarations, behind those before.
+/// Declarations, behind those before.
 fn push_all<'a>(
     all: &mut Vec<&'a Declaration>,
     declarations: &'a [Declaration],
@@ -69,7 +69,7 @@ fn push_all<'a>(
     Ok(())
 }
 
-// The declarations of a node, in order.
+/// The declarations of a node, in order.
 fn declarations_in(alloc: Global, node: &Node) -> Result<Vec<&Declaration>, AllocError>
     ensures { IfOk result (λ v. map (λ d. d.now) v.items ≡ declared_in node.now) }
 {
@@ -80,7 +80,7 @@ fn declarations_in(alloc: Global, node: &Node) -> Result<Vec<&Declaration>, Allo
     Ok(all)
 }
 
-// The table of the names of declarations.
+/// The table of the names of declarations.
 fn places_of<'a>(alloc: Global, declarations: &'a [Declaration]) -> Result<Places<'a>, AllocError>
     ensures { IfOk result (λ places. places ≡ spellings declarations.now) }
 {
@@ -91,7 +91,7 @@ fn places_of<'a>(alloc: Global, declarations: &'a [Declaration]) -> Result<Place
     Places::new(alloc, names)
 }
 
-// The table of the names of declarations that are lent.
+/// The table of the names of declarations that are lent.
 fn places_of_lent<'a>(
     alloc: Global,
     declarations: &[&'a Declaration],
@@ -105,7 +105,7 @@ fn places_of_lent<'a>(
     Places::new(alloc, names)
 }
 
-// Whether two clocks have one pattern, or are both the base clock.
+/// Whether two clocks have one pattern, or are both the base clock.
 fn have_one_pattern(j: ClockRef, k: ClockRef) -> bool
     ensures { IsTrue result
         ↔ (option_map (λ (c : Condition). c.pattern) (the_clock j.entry)
@@ -118,7 +118,7 @@ fn have_one_pattern(j: ClockRef, k: ClockRef) -> bool
     }
 }
 
-// The clock of a declaration, with the place of its variable in a table.
+/// The clock of a declaration, with the place of its variable in a table.
 fn declared_clock<'a>(variables: &Places, declaration: &'a Declaration) -> PlacedClock<'a>
     ensures clock { placed_view result ≡ declaration.now.clock }
     ensures place { result.place ≡ place_among variables.now declaration.now.clock }
@@ -135,7 +135,7 @@ fn declared_clock<'a>(variables: &Places, declaration: &'a Declaration) -> Place
     }
 }
 
-// The clocks of declarations that are lent, with the places of their variables in a table.
+/// The clocks of declarations that are lent, with the places of their variables in a table.
 fn declared_clocks<'a>(
     alloc: Global,
     variables: &Places,
@@ -224,7 +224,8 @@ impl<'a> Scope<'a> {
         }
     }
 
-    /// The clock of the declaration at a place, counted from 0 over inputs, outputs and locals; none behind the last.
+    /// The clock of the declaration at a place, counted from 0 over inputs, outputs and locals; none behind
+    /// the last.
     pub fn clock_at(&self, place: usize) -> Option<PlacedClock<'a>>
         ensures clock { option_map placed_view result
             ≡ slice_get (clock_list (declared_in self.now)) place }

@@ -119,7 +119,7 @@ pub trait Stage<'a> {
             (keeps_equation self.now scope.now place equation.now) result };
 }
 
-// The least fault of the names of a type.
+/// The least fault of the names of a type.
 fn names_fault<'a, S: Stage<'a>>(
     stage: &S,
     place: usize,
@@ -139,7 +139,7 @@ fn names_fault<'a, S: Stage<'a>>(
     best
 }
 
-// The least fault of the type at a place.
+/// The least fault of the type at a place.
 fn whole_type_fault<'a, S: Stage<'a>>(
     stage: &S,
     place: usize,
@@ -156,7 +156,7 @@ fn whole_type_fault<'a, S: Stage<'a>>(
     lesser(of_type, of_names)
 }
 
-// The least fault of the types.
+/// The least fault of the types.
 fn types_fault<'a, S: Stage<'a>>(stage: &S, types: &[TypeDeclaration]) -> Option<StatError>
     requires { (S.program stage.now).types ≡ types.now }
     ensures { IsJudged
@@ -172,7 +172,7 @@ fn types_fault<'a, S: Stage<'a>>(stage: &S, types: &[TypeDeclaration]) -> Option
     best
 }
 
-// The least fault of the declarations of a node.
+/// The least fault of the declarations of a node.
 fn declarations_fault<'a, S: Stage<'a>>(
     stage: &S,
     prepared: &S::Prepared,
@@ -192,7 +192,7 @@ fn declarations_fault<'a, S: Stage<'a>>(
     best
 }
 
-// The least fault of the equations of a node.
+/// The least fault of the equations of a node.
 fn equations_fault<'a, S: Stage<'a>>(
     stage: &S,
     prepared: &S::Prepared,
@@ -211,7 +211,7 @@ fn equations_fault<'a, S: Stage<'a>>(
     best
 }
 
-// The least fault of the node at a place.
+/// The least fault of the node at a place.
 fn node_fault<'a, S: Stage<'a>>(
     alloc: Global,
     stage: &S,
@@ -232,7 +232,7 @@ fn node_fault<'a, S: Stage<'a>>(
     Ok(lesser(of_node, lesser(of_declarations, of_equations)))
 }
 
-// The least fault of the nodes.
+/// The least fault of the nodes.
 fn nodes_fault<'a, S: Stage<'a>>(
     alloc: Global,
     stage: &S,
@@ -253,8 +253,9 @@ fn nodes_fault<'a, S: Stage<'a>>(
     Ok(best)
 }
 
-/// The least fault that a stage finds at the types and their names, and at the nodes, their declarations and their equations: that of the
-/// least byte, at equal bytes that of the least number. None where the stage finds none.
+/// The least fault that a stage finds at the types and their names, and at the nodes, their declarations and
+/// their equations: that of the least byte, at equal bytes that of the least number. None where the stage
+/// finds none.
 ///
 /// # Errors
 ///

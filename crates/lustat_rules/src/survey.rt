@@ -10,8 +10,8 @@ use crate::{Catalog, Scope, Stage, StatError};
 use lutree::{Declaration, DeclaredName, Equation, TypeDeclaration};
 use std::alloc::{AllocError, Global};
 
-/// A stage of the static checks that gives all faults of each place, and not the least alone. Each test adds them behind those that
-/// were found before, in any order.
+/// A stage of the static checks that gives all faults of each place, and not the least alone. Each test adds
+/// them behind those that were found before, in any order.
 pub trait Survey<'a>: Stage<'a> {
     /// Adds the faults of the type at a place, but for those of its names.
     ///
@@ -101,7 +101,7 @@ pub trait Survey<'a>: Stage<'a> {
             found.old.items found.new.items) };
 }
 
-// Adds the faults of the type at a place and of its names.
+/// Adds the faults of the type at a place and of its names.
 fn push_in_type<'a, S: Survey<'a>>(
     survey: &S,
     found: &mut Vec<StatError>,
@@ -116,7 +116,7 @@ fn push_in_type<'a, S: Survey<'a>>(
     push_of_names(survey, found, place, declaration)
 }
 
-// Adds the faults of the names of a type.
+/// Adds the faults of the names of a type.
 fn push_of_names<'a, S: Survey<'a>>(
     survey: &S,
     found: &mut Vec<StatError>,
@@ -134,7 +134,7 @@ fn push_of_names<'a, S: Survey<'a>>(
     Ok(())
 }
 
-// Adds the faults of the types.
+/// Adds the faults of the types.
 fn push_of_types<'a, S: Survey<'a>>(
     survey: &S,
     found: &mut Vec<StatError>,
@@ -151,7 +151,7 @@ fn push_of_types<'a, S: Survey<'a>>(
     Ok(())
 }
 
-// Adds the faults of the declarations of a node.
+/// Adds the faults of the declarations of a node.
 fn push_of_declarations<'a, S: Survey<'a>>(
     survey: &S,
     found: &mut Vec<StatError>,
@@ -169,7 +169,7 @@ fn push_of_declarations<'a, S: Survey<'a>>(
     Ok(())
 }
 
-// Adds the faults of the equations of a node.
+/// Adds the faults of the equations of a node.
 fn push_of_equations<'a, S: Survey<'a>>(
     survey: &S,
     found: &mut Vec<StatError>,
@@ -187,7 +187,7 @@ fn push_of_equations<'a, S: Survey<'a>>(
     Ok(())
 }
 
-// Adds the faults of the node at a place, of its declarations and of its equations.
+/// Adds the faults of the node at a place, of its declarations and of its equations.
 fn push_in_node<'a, S: Survey<'a>>(
     alloc: Global,
     survey: &S,
@@ -206,7 +206,7 @@ fn push_in_node<'a, S: Survey<'a>>(
     push_of_equations(survey, found, &prepared, scope)
 }
 
-// Adds the faults of the nodes.
+/// Adds the faults of the nodes.
 fn push_of_nodes<'a, S: Survey<'a>>(
     alloc: Global,
     survey: &S,
@@ -224,8 +224,8 @@ fn push_of_nodes<'a, S: Survey<'a>>(
     Ok(())
 }
 
-/// Adds all faults that a survey finds at the types and their names, and at the nodes, their declarations and their equations, in
-/// any order.
+/// Adds all faults that a survey finds at the types and their names, and at the nodes, their declarations and
+/// their equations, in any order.
 ///
 /// # Errors
 ///
@@ -246,8 +246,9 @@ pub fn push_faults<'a, S: Survey<'a>>(
     push_of_nodes(alloc, survey, found, catalog.scopes())
 }
 
-/// All faults that a survey finds at the types and their names, and at the nodes, their declarations and their equations: each once,
-/// by byte, at equal bytes by number. The first is that of [`lustat_rules::least_fault`].
+/// All faults that a survey finds at the types and their names, and at the nodes, their declarations and
+/// their equations: each once, by byte, at equal bytes by number. The first is that of
+/// [`lustat_rules::least_fault`].
 ///
 /// # Errors
 ///

@@ -7,7 +7,7 @@ ghost use Rattle.lustat_warn.specs.Scans.{divides_within, some_divides_within};
 
 use lutree::{BinaryOperator, Expr, Infix};
 
-// Whether what stands between two operands is `div` or `mod`.
+/// Whether what stands between two operands is `div` or `mod`.
 fn is_division(op: Infix) -> bool
     ensures { result ≡ is_dividing op }
 {
@@ -17,7 +17,7 @@ fn is_division(op: Infix) -> bool
     }
 }
 
-// Whether an expression has a division: any one where `everywhere` is set, else one in a branch of an `if`.
+/// Whether an expression has a division: any one where `everywhere` is set, else one in a branch of an `if`.
 #[cycle(dividing)]
 fn divides(everywhere: bool, e: &Expr) -> bool
     ensures { result ≡ divides_within everywhere (view e.now) }
@@ -35,7 +35,7 @@ fn divides(everywhere: bool, e: &Expr) -> bool
     }
 }
 
-// Whether one of several expressions has such a division.
+/// Whether one of several expressions has such a division.
 #[cycle(dividing)]
 fn some_divides(everywhere: bool, all: &[Expr]) -> bool
     ensures { result ≡ some_divides_within everywhere (trees_of (views all.now)) }

@@ -10,7 +10,7 @@ use lustat_rules::Places;
 use lutree::{Declaration, Equation, Expr, Node, Program};
 use std::alloc::{AllocError, Global};
 
-// Adds the names of variables that an expression has.
+/// Adds the names of variables that an expression has.
 #[cycle(names)]
 fn push_names<'a>(names: &mut Vec<&'a str>, e: &'a Expr) -> Result<(), AllocError>
     ensures { OnOk result (spelled names.new.items
@@ -41,7 +41,7 @@ fn push_names<'a>(names: &mut Vec<&'a str>, e: &'a Expr) -> Result<(), AllocErro
     }
 }
 
-// Adds the names of variables that the arguments of a call or the branches of a merge have.
+/// Adds the names of variables that the arguments of a call or the branches of a merge have.
 #[cycle(names)]
 fn push_all_names<'a>(names: &mut Vec<&'a str>, all: &'a [Expr]) -> Result<(), AllocError>
     ensures { OnOk result (spelled names.new.items
@@ -53,7 +53,7 @@ fn push_all_names<'a>(names: &mut Vec<&'a str>, all: &'a [Expr]) -> Result<(), A
     Ok(())
 }
 
-// Adds a name.
+/// Adds a name.
 fn push_name<'a>(names: &mut Vec<&'a str>, name: &'a str) -> Result<(), AllocError>
     ensures { OnOk result (spelled names.new.items ≡ spelled names.old.items ++ name.now ∷ []) }
 {
@@ -61,7 +61,7 @@ fn push_name<'a>(names: &mut Vec<&'a str>, name: &'a str) -> Result<(), AllocErr
     Ok(())
 }
 
-// Adds the names of variables on the right sides of equations.
+/// Adds the names of variables on the right sides of equations.
 fn push_of_equations<'a>(
     names: &mut Vec<&'a str>,
     equations: &'a [Equation],
@@ -75,7 +75,7 @@ fn push_of_equations<'a>(
     Ok(())
 }
 
-// Adds the variable of the clock of a declaration.
+/// Adds the variable of the clock of a declaration.
 fn push_clock<'a>(names: &mut Vec<&'a str>, declaration: &'a Declaration) -> Result<(), AllocError>
     ensures { OnOk result (spelled names.new.items
         ≡ spelled names.old.items ++ clock_variables declaration.now.clock) }
@@ -86,7 +86,7 @@ fn push_clock<'a>(names: &mut Vec<&'a str>, declaration: &'a Declaration) -> Res
     }
 }
 
-// Adds the variables of the clocks of declarations.
+/// Adds the variables of the clocks of declarations.
 fn push_clocks<'a>(
     names: &mut Vec<&'a str>,
     declarations: &'a [Declaration],
@@ -100,7 +100,8 @@ fn push_clocks<'a>(
     Ok(())
 }
 
-/// The table of the names that a node reads: on the right sides of its equations, and in the clocks of its declarations.
+/// The table of the names that a node reads: on the right sides of its equations, and in the clocks of its
+/// declarations.
 ///
 /// # Errors
 ///
@@ -116,7 +117,7 @@ pub fn names_read(alloc: Global, node: &Node) -> Result<Places<'_>, AllocError>
     Places::new(alloc, names)
 }
 
-// Adds the names of the nodes that an expression calls.
+/// Adds the names of the nodes that an expression calls.
 #[cycle(calls)]
 fn push_calls<'a>(names: &mut Vec<&'a str>, e: &'a Expr) -> Result<(), AllocError>
     ensures { OnOk result (spelled names.new.items
@@ -143,7 +144,7 @@ fn push_calls<'a>(names: &mut Vec<&'a str>, e: &'a Expr) -> Result<(), AllocErro
     }
 }
 
-// Adds the names of the nodes that the arguments of a call or the branches of a merge call.
+/// Adds the names of the nodes that the arguments of a call or the branches of a merge call.
 #[cycle(calls)]
 fn push_all_calls<'a>(names: &mut Vec<&'a str>, all: &'a [Expr]) -> Result<(), AllocError>
     ensures { OnOk result (spelled names.new.items
@@ -155,7 +156,7 @@ fn push_all_calls<'a>(names: &mut Vec<&'a str>, all: &'a [Expr]) -> Result<(), A
     Ok(())
 }
 
-// Adds the names of the nodes that a node calls.
+/// Adds the names of the nodes that a node calls.
 fn push_called<'a>(names: &mut Vec<&'a str>, node: &'a Node) -> Result<(), AllocError>
     ensures { OnOk result (spelled names.new.items
         ≡ spelled names.old.items ++ called_by (node_view node.now)) }

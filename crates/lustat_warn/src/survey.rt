@@ -13,7 +13,7 @@ use lustat_rules::Places;
 use lutree::{Declaration, Equation, Node, Program};
 use std::alloc::{AllocError, Global};
 
-// Adds a warning where it is told.
+/// Adds a warning where it is told.
 fn push_if(found: &mut Vec<Warning>, is_told: bool, warning: Warning) -> Result<(), AllocError>
     ensures { OnOk result (Adds (λ w. (w ≡ warning) × IsTrue is_told)
         found.old.items found.new.items) }
@@ -24,14 +24,14 @@ fn push_if(found: &mut Vec<Warning>, is_told: bool, warning: Warning) -> Result<
     Ok(())
 }
 
-// Whether a node isn't the main node, and isn't called.
+/// Whether a node isn't the main node, and isn't called.
 fn is_unused(called: &Places, main: &str, node: &Node) -> bool
     ensures { IsTrue result ↔ ((node.now.name ≢ main.now) × ¬ Contains called.now node.now.name) }
 {
     !node.name.is(main) && !called.has(node.name.as_str())
 }
 
-// Adds the warning of a node that isn't used.
+/// Adds the warning of a node that isn't used.
 fn push_unused_node(
     found: &mut Vec<Warning>,
     called: &Places,
@@ -51,14 +51,14 @@ fn push_unused_node(
     push_if(found, is_unused(called, main, node), warning)
 }
 
-// Whether a variable isn't read.
+/// Whether a variable isn't read.
 fn is_unread(read: &Places, declaration: &Declaration) -> bool
     ensures { IsTrue result ↔ ¬ Contains read.now declaration.now.name }
 {
     !read.has(declaration.name.as_str())
 }
 
-// Adds the warnings of variables of a node that aren't read.
+/// Adds the warnings of variables of a node that aren't read.
 fn push_unread(
     found: &mut Vec<Warning>,
     read: &Places,
@@ -81,7 +81,7 @@ fn push_unread(
     Ok(())
 }
 
-// Adds the warnings of equations with a division in a branch.
+/// Adds the warnings of equations with a division in a branch.
 fn push_dividing(
     found: &mut Vec<Warning>,
     place: usize,
@@ -102,7 +102,7 @@ fn push_dividing(
     Ok(())
 }
 
-// Adds the warnings of a node.
+/// Adds the warnings of a node.
 fn push_in_node(
     alloc: Global,
     found: &mut Vec<Warning>,
@@ -133,7 +133,7 @@ fn push_in_node(
     push_dividing(found, place, node.equations.as_slice())
 }
 
-// Adds the warnings of all nodes.
+/// Adds the warnings of all nodes.
 fn push_of_nodes(
     alloc: Global,
     found: &mut Vec<Warning>,
@@ -150,8 +150,8 @@ fn push_of_nodes(
     Ok(())
 }
 
-/// All warnings of a program with a main node of this name, if there is one: each once, in order of text. They are told of any
-/// program, whether it keeps the static rules or not.
+/// All warnings of a program with a main node of this name, if there is one: each once, in order of text.
+/// They are told of any program, whether it keeps the static rules or not.
 ///
 /// The time grows with the size of the program times the logarithm of the number of its names.
 ///

@@ -9,7 +9,8 @@ pub enum WarningKind {
     UnusedInput,
     /// A node doesn't read a local variable.
     UnusedLocal,
-    /// An equation has an `if` with a `div` or a `mod` in one of its two branches, which are both computed at each instant.
+    /// An equation has an `if` with a `div` or a `mod` in one of its two branches, which are both computed at
+    /// each instant.
     DividingBranch,
 }
 
@@ -19,9 +20,10 @@ pub struct Warning {
     pub kind: WarningKind,
     /// The node's number among the nodes, counted from 0.
     pub node: usize,
-    /// The number of the input among the node's inputs, of the variable among its locals, or of the equation among its equations,
-    /// counted from 0; 0 where the node itself is meant.
+    /// The number of the input among the node's inputs, of the variable among its locals, or of the equation
+    /// among its equations, counted from 0; 0 where the node itself is meant.
     pub number: usize,
-    /// The place of the first byte of the node's name, of the variable's name, or of the equation, counted from 0.
+    /// The place of the first byte of the node's name, of the variable's name, or of the equation, counted
+    /// from 0.
     pub byte: usize,
 }

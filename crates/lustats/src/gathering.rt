@@ -91,8 +91,8 @@ impl LinkCell {
     }
 }
 
-/// What the ends of a run's links said, which many threads may note at once. A contract sees for how many sites and links it has
-/// room. A thread's notes are seen once it was joined.
+/// What the ends of a run's links said, which many threads may note at once. A contract sees for how many
+/// sites and links it has room. A thread's notes are seen once it was joined.
 #[derive(Drop)]
 pub struct RunStats {
     sites: Vec<SiteCell>,
@@ -163,8 +163,8 @@ impl RunStats {
         Ok(RunStats { sites, links })
     }
 
-    /// Notes what an end of a link of this site said: once for each end of a run. A site or a link that the plan hasn't is passed
-    /// over. Takes no memory.
+    /// Notes what an end of a link of this site said: once for each end of a run. A site or a link that the
+    /// plan hasn't is passed over. Takes no memory.
     pub fn note(&self, site: u8, end: EndTally) {
         let tally = end.tally;
         if let Some(cell) = self.sites.get(usize::from(site)) {

@@ -160,8 +160,8 @@ fn put_run(text: &mut String, micros: u64, instants: u32) -> Result<(), AllocErr
     text.push_str("\n")
 }
 
-/// What a run of a plan counted, as lines: one for each site, one for each link, and one for the run, which took so many
-/// microseconds and did so many instants. What the counts don't have is 0.
+/// What a run of a plan counted, as lines: one for each site, one for each link, and one for the run, which
+/// took so many microseconds and did so many instants. What the counts don't have is 0.
 ///
 /// # Errors
 ///

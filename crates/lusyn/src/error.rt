@@ -9,18 +9,18 @@ use thiserror::Error;
 /// Why a text is refused. Its text is the line that the program prints.
 #[derive(Debug, Drop, Error)]
 pub enum SynError {
-    /// The text spells no program. The byte is one that begins no token, or the first one of the first token with which
-    /// no program goes on, or the text's length where it ends too early.
+    /// The text spells no program. The byte is one that begins no token, or the first one of the first token
+    /// with which no program goes on, or the text's length where it ends too early.
     Syntax { byte: usize },
     /// The number at this byte is above 9223372036854775807.
     NumberTooLarge { byte: usize },
     /// A byte is above 127.
     NotAscii,
-    /// The text has more than 1,048,576 bytes, or its program has more than 256 nodes, more than 64 types, or a type of more than
-    /// 64 names.
+    /// The text has more than 1,048,576 bytes, or its program has more than 256 nodes, more than 64 types, or
+    /// a type of more than 64 names.
     TooLong,
-    /// The token at this byte is the first one with 1,000 others of its run before it. A run's tokens are those before
-    /// the first `;`, those between two, and those after the last.
+    /// The token at this byte is the first one with 1,000 others of its run before it. A run's tokens are
+    /// those before the first `;`, those between two, and those after the last.
     LongRun { byte: usize },
     /// Memory ran out.
     OutOfMemory,

@@ -13,7 +13,8 @@ pub fn print_program(alloc: Global, program: &Program) -> Result<String, AllocEr
     // The text is the canonical one.
     ensures canonical { IfOk result (λ text. string_bytes text
         ≡ canonical (program_view program.now)) }
-    // Where the program is that of a text, it is read back as the same program, places aside, if it isn't too long for a text.
+    // Where the program is that of a text, it is read back as the same program, places aside, if it isn't too
+    // long for a text.
     ensures again { IfOk result (λ text. IsReadBack (string_bytes text)
         (program_view program.now)) }
 {

@@ -67,9 +67,10 @@ fn read_written(alloc: Global, text: &str) -> Result<Program, SynError>
 
 /// The program that a text spells.
 ///
-/// A text without tokens is refused as [`lex`] of crate `lusyn_grammar` refuses it. Any other text that spells no program is
-/// refused at the first token with which no program goes on, or at its end where it ends too early. A program of more than
-/// [`MOST_NODES`] nodes, of more than [`MOST_TYPES`] types or of more than [`MOST_NAMES`] names in one is refused last.
+/// A text without tokens is refused as [`lex`] of crate `lusyn_grammar` refuses it. Any other text that
+/// spells no program is refused at the first token with which no program goes on, or at its end where it ends
+/// too early. A program of more than [`MOST_NODES`] nodes, of more than [`MOST_TYPES`] types or of more than
+/// [`MOST_NAMES`] names in one is refused last.
 pub fn read_program(alloc: Global, text: &str) -> Result<Program, SynError>
     // What is read is spelled so.
     ensures spelled { IfOk result (λ found. SpellsText text.now (program_view found)) }

@@ -3,7 +3,8 @@
 use std::alloc::{AllocError, AllocFailed};
 use thiserror::Error;
 
-/// Why a text is refused. Its text is the line that a program prints. Of a text the first of these that is true is reported.
+/// Why a text is refused. Its text is the line that a program prints. Of a text the first of these that is
+/// true is reported.
 #[derive(Debug, Drop, Error)]
 pub enum LexError {
     /// The text has more than 1,048,576 bytes.
@@ -18,8 +19,8 @@ pub enum LexError {
     /// The number whose first digit this is is above 9223372036854775807.
     #[error("E02 NumberTooLarge at {byte}")]
     NumberTooLarge { byte: usize },
-    /// The token at this byte has 1,000 others of its run before it. A run's tokens are those before the first `;`,
-    /// those between two, and those after the last.
+    /// The token at this byte has 1,000 others of its run before it. A run's tokens are those before the
+    /// first `;`, those between two, and those after the last.
     #[error("E05 LongRun at {byte}")]
     LongRun { byte: usize },
     /// Memory ran out.

@@ -1,4 +1,5 @@
-//! What holds of reading and printing, over all tokens and all trees, as contracts of functions that do nothing.
+//! What holds of reading and printing, over all tokens and all trees, as contracts of functions that do
+//! nothing.
 
 ghost use Rattle.lusyn_grammar.specs.Laws.{ReadingLaw, OneTreeLaw, PrintingLaw, PrintableLaw, RefusalLaw, BeginningLaw};
 ghost use Rattle.lusyn_grammar.specs.Examples.{ExamplesLaw};
@@ -18,7 +19,8 @@ pub fn refusal_law()
     ensures { RefusalLaw }
 {}
 
-/// What stands before a refused token is a prefix of a text. So a refused token is the first with which no text goes on.
+/// What stands before a refused token is a prefix of a text. So a refused token is the first with which no
+/// text goes on.
 pub fn beginning_law()
     ensures { BeginningLaw }
 {}

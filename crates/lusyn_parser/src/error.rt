@@ -6,8 +6,8 @@ use thiserror::Error;
 /// Why tokens are refused. Its text is the line that the program prints.
 #[derive(Debug, Drop, Error)]
 pub enum ParseError {
-    /// The byte is the place of the first token with which no program goes on, or the text's length where it ends too
-    /// early.
+    /// The byte is the place of the first token with which no program goes on, or the text's length where it
+    /// ends too early.
     #[error("E01 Syntax at {byte}")]
     Syntax { byte: usize },
     /// Memory ran out.

@@ -61,8 +61,8 @@ fn resolve_by(
     resolve_nodes(alloc, &labels, nodes)
 }
 
-/// The program with its names resolved by its types. It takes memory for a table of their names and for each name that is found to
-/// be one of an enumeration, and none where there are no types.
+/// The program with its names resolved by its types. It takes memory for a table of their names and for each
+/// name that is found to be one of an enumeration, and none where there are no types.
 pub fn resolve(alloc: Global, program: Program) -> Result<Program, AllocError>
     requires { AreFew (types_view program.types) }
     ensures program { IfOk result (λ found. program_view found

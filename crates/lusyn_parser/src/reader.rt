@@ -128,7 +128,8 @@ impl<'t> Reader<'t> {
         }
     }
 
-    /// The variable of a clock with this label, after the parenthesis that opens it, up to the one that closes it.
+    /// The variable of a clock with this label, after the parenthesis that opens it, up to the one that
+    /// closes it.
     fn labelled_clock(&self, label: SharedName, at: usize) -> Result<(Condition, usize), Stop>
         ensures condition { Reads self.now.tokens.now at (λ a. a) result
             (reading.labelled_clock label) }
@@ -215,7 +216,8 @@ impl<'t> Reader<'t> {
         Ok(Expr::Binary(op, a, boxed(self.alloc, b)?))
     }
 
-    /// The merge on this variable with a branch for each truth: the one that was put first, and another behind it.
+    /// The merge on this variable with a branch for each truth: the one that was put first, and another
+    /// behind it.
     fn both(&self, variable: SharedName, first: Vec<Expr>, b: Expr) -> Result<Expr, Stop>
         ensures { (a : Expr) → first.items ≡ a ∷ [] → Gives self.now.tokens.now view result
             (Ok (t.merge variable truths (t.more (view a) (t.more (view b) t.none)))) }
@@ -266,7 +268,8 @@ impl<'t> Reader<'t> {
 
 /// Names and constants.
 impl<'t> Reader<'t> {
-    /// Whether a name or a constant before this place is not called, and no operator of this level or above follows it.
+    /// Whether a name or a constant before this place is not called, and no operator of this level or above
+    /// follows it.
     fn ends_at(&self, least: u8, at: usize) -> bool
         ensures { result ≡ true → EndsOperand least (ahead self.now.tokens.now at) }
     {
@@ -317,8 +320,9 @@ impl<'t> Reader<'t> {
     }
 }
 
-/// Expressions. A depth bounds how deeply they are nested. An operand is put in memory of its own before what follows it is read:
-/// what is dropped where that fails is then a box and not an expression of eleven forms, each of which the proof would go through.
+/// Expressions. A depth bounds how deeply they are nested. An operand is put in memory of its own before what
+/// follows it is read: what is dropped where that fails is then a box and not an expression of eleven forms,
+/// each of which the proof would go through.
 impl<'t> Reader<'t> {
     /// An expression of this level or above, and the place after it.
     #[cycle(parser)]

@@ -84,7 +84,8 @@ fn put(e: &mut Expr, new: Expr)
     *e = new;
 }
 
-/// An expression, where it lies. It is gone into by recursion, so the stack has to hold as many calls as it is nested.
+/// An expression, where it lies. It is gone into by recursion, so the stack has to hold as many calls as it
+/// is nested.
 #[cycle(resolving)]
 pub(crate) fn resolve_expr(
     alloc: Global,

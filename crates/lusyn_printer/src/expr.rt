@@ -92,7 +92,8 @@ fn put_operand(text: &mut String, e: &Expr, least: u8) -> Result<(), AllocError>
     text.push(')')
 }
 
-/// Appends an expression in its canonical form: parentheses exactly where they are needed, one space between the parts.
+/// Appends an expression in its canonical form: parentheses exactly where they are needed, one space between
+/// the parts.
 ///
 /// # Errors
 ///

@@ -206,8 +206,9 @@ fn put_types(text: &mut String, types: &[TypeDeclaration]) -> Result<(), AllocEr
     Ok(())
 }
 
-/// The canonical text of a program, in ASCII where its names are. It fails only where memory runs out. The expressions of the
-/// program are gone into by recursion, so the stack has to hold as many calls as they are nested.
+/// The canonical text of a program, in ASCII where its names are. It fails only where memory runs out. The
+/// expressions of the program are gone into by recursion, so the stack has to hold as many calls as they are
+/// nested.
 pub fn print_program(alloc: Global, program: &Program) -> Result<String, AllocError>
     ensures canonical { IfOk result (λ text. string_bytes text
         ≡ canonical (program_view program.now)) }

@@ -280,9 +280,10 @@ fn put_lines(
     )
 }
 
-/// Writes the text of a table of columns of these types, in a program with these enumerations: a line of the names, and a line for each instant. Each
-/// field stands at the right of its column, which is as wide as its longest field; two blanks are between two columns. A name is spelled as the type
-/// of its column has it. The time grows with the text.
+/// Writes the text of a table of columns of these types, in a program with these enumerations: a line of the
+/// names, and a line for each instant. Each field stands at the right of its column, which is as wide as its
+/// longest field; two blanks are between two columns. A name is spelled as the type of its column has it. The
+/// time grows with the text.
 ///
 /// # Errors
 ///

@@ -25,7 +25,8 @@ fn put_lines(text: &mut String, variables: &[Variable]) -> Result<(), AllocError
     Ok(())
 }
 
-/// Writes the placement that a user begins with: one site, at which each main variable stands, a line each, in order of declaration.
+/// Writes the placement that a user begins with: one site, at which each main variable stands, a line each,
+/// in order of declaration.
 ///
 /// # Errors
 ///

@@ -65,8 +65,8 @@ fn put_lines(text: &mut String, line: &str, count: u32) -> Result<(), AllocError
     Ok(())
 }
 
-/// Writes the table of inputs that a user begins with: the header, and a line for each of so many instants, in which each input is 0, `false`,
-/// or the first name of its enumeration.
+/// Writes the table of inputs that a user begins with: the header, and a line for each of so many instants,
+/// in which each input is 0, `false`, or the first name of its enumeration.
 ///
 /// # Errors
 ///

@@ -1,7 +1,8 @@
 //! Tables of a program's inputs and outputs, as texts.
 //!
-//! A text has a line of the names, the header, and then a line for each instant. Values and names are joined by commas,
-//! and each line ends by a line feed. How values, rows and headers are spelled stands in `specs/Text.antt`.
+//! A text has a line of the names, the header, and then a line for each instant. Values and names are joined
+//! by commas, and each line ends by a line feed. How values, rows and headers are spelled stands in
+//! `specs/Text.antt`.
 //!
 //! # Inputs
 //!
@@ -16,9 +17,9 @@
 //!
 //! # Outputs
 //!
-//! - [`write_outputs`] writes the text of a table of outputs, and [`write_columns`] that of any main variables'
-//!   columns, by the types that [`shown_kinds`] gives; [`put_datum`] writes one value, and [`put_comma`] what stands
-//!   before a field.
+//! - [`write_outputs`] writes the text of a table of outputs, and [`write_columns`] that of any main
+//!   variables' columns, by the types that [`shown_kinds`] gives; [`put_datum`] writes one value, and
+//!   [`put_comma`] what stands before a field.
 //! - [`write_aligned`] writes the text of such columns with their fields at the right of their columns.
 //!
 //! # What a user begins with
@@ -26,7 +27,8 @@
 //! A placement and a table of a program's inputs, as texts that are stated functions of the flat program.
 //!
 //! - [`write_placement`]: a placement in TOML, of all main variables at one site, a line each, to be edited.
-//! - [`write_table`]: a table of inputs, in which each input is 0, `false`, or the first name of its enumeration.
+//! - [`write_table`]: a table of inputs, in which each input is 0, `false`, or the first name of its
+//!   enumeration.
 //! - [`laws`]: it is a table of the program's inputs.
 #![tactic(auto)]
 

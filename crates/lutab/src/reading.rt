@@ -134,8 +134,9 @@ fn read_text(
     Ok(table_of(instants, columns))
 }
 
-/// Reads the text of a table of a program's inputs. The columns are reserved once, for the instants that so many bytes can
-/// hold, and no line takes memory of its own; the time grows with the bytes, and at a name with the names of its type.
+/// Reads the text of a table of a program's inputs. The columns are reserved once, for the instants that so
+/// many bytes can hold, and no line takes memory of its own; the time grows with the bytes, and at a name
+/// with the names of its type.
 pub fn read_inputs(alloc: Global, flat: &Flat, text: &str) -> Result<Inputs, TabError>
     // What is read is the table that the text spells.
     ensures spelled { IfOk result (λ table. IsTextOf flat.now.types (inputs_of flat.now.variables)

@@ -159,8 +159,9 @@ fn put_rows(
     Ok(())
 }
 
-/// The text of outputs of these types that have something at each of these instants. Columns lie far apart in memory, and only some can be
-/// read side by side at full speed; so what they have at the next instants is brought together first.
+/// The text of outputs of these types that have something at each of these instants. Columns lie far apart in
+/// memory, and only some can be read side by side at full speed; so what they have at the next instants is
+/// brought together first.
 fn write_lines(
     alloc: Global,
     types: &[Enum],
@@ -196,8 +197,8 @@ fn output_kinds(alloc: Global, variables: &[Variable]) -> Result<Vec<Kind>, Allo
         .collect(alloc)
 }
 
-/// The types of the main variables that are shown, in order of declaration: of all of them, or of the outputs alone. Memory is
-/// the only thing that it can lack.
+/// The types of the main variables that are shown, in order of declaration: of all of them, or of the outputs
+/// alone. Memory is the only thing that it can lack.
 pub fn shown_kinds(
     alloc: Global,
     variables: &[Variable],
@@ -212,9 +213,9 @@ pub fn shown_kinds(
     }
 }
 
-/// Writes the text of a table of columns of these types, in a program with these enumerations: a line of the names, and a line
-/// for each instant. A name is spelled as the type of its column has it. Memory is the only thing that it can lack; the time
-/// grows with the text.
+/// Writes the text of a table of columns of these types, in a program with these enumerations: a line of the
+/// names, and a line for each instant. A name is spelled as the type of its column has it. Memory is the only
+/// thing that it can lack; the time grows with the text.
 pub fn write_columns(
     alloc: Global,
     types: &[Enum],
@@ -231,8 +232,9 @@ pub fn write_columns(
     }
 }
 
-/// Writes the text of a table of a program's outputs: a line of the names, and a line for each instant. A name is spelled as the type
-/// of the program's output in its column has it. Memory is the only thing that it can lack; the time grows with the text.
+/// Writes the text of a table of a program's outputs: a line of the names, and a line for each instant. A
+/// name is spelled as the type of the program's output in its column has it. Memory is the only thing that it
+/// can lack; the time grows with the text.
 pub fn write_outputs(alloc: Global, flat: &Flat, outputs: &Outputs) -> Result<String, AllocError>
     ensures exact { IfOk result (λ s. string_bytes s ≡ output_text flat.now outputs.now) }
 {

@@ -104,8 +104,8 @@ impl Drop for Pattern {
     }
 }
 
-/// A clock: the variable `c` with the pattern `true` is written `c`, with `false` it is written `not c`, and with the name `A`
-/// of an enumeration `A(c)`.
+/// A clock: the variable `c` with the pattern `true` is written `c`, with `false` it is written `not c`, and
+/// with the name `A` of an enumeration `A(c)`.
 pub struct Condition {
     pub variable: SharedName,
     pub pattern: Pattern,
@@ -142,8 +142,9 @@ pub enum Expr {
     When(Box<Expr>, Condition),
     /// `current v`
     Current(Name),
-    /// `merge c (true -> a) (false -> b)` or `merge c (A -> a) (B -> b) (C -> d)`: the variable, the patterns of its branches and
-    /// as many branches. The patterns lie apart, so that no expression takes more memory for them.
+    /// `merge c (true -> a) (false -> b)` or `merge c (A -> a) (B -> b) (C -> d)`: the variable, the patterns
+    /// of its branches and as many branches. The patterns lie apart, so that no expression takes more memory
+    /// for them.
     Merge(SharedName, Box<Row<Pattern>>, Vec<Expr>),
     /// `f(a, b)`
     Call(Name, Vec<Expr>),

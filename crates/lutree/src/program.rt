@@ -47,9 +47,11 @@ pub struct Declaration {
     pub name: Name,
     /// Its type; an enumeration without names where its type has a name that no type of the program has.
     pub kind: Kind,
-    /// How its type is written where that is the name of an enumeration. All names that are declared at once share it.
+    /// How its type is written where that is the name of an enumeration. All names that are declared at once
+    /// share it.
     pub type_name: Option<SharedName>,
-    /// The declared clock; none is the node's base clock. All names that are declared at once share its names.
+    /// The declared clock; none is the node's base clock. All names that are declared at once share its
+    /// names.
     pub clock: Option<Condition>,
     /// The place of the name's first byte in the text, counted from 0.
     pub byte: usize,

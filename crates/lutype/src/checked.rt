@@ -46,16 +46,17 @@ fn order_of_names(alloc: Global, catalog: &Catalog, main: &str) -> Result<Vec<us
     }
 }
 
-/// Whether the names and types of a program are in order: its names are declared once and known, its calls are of nodes and
-/// have their arities, no node reaches itself by calls, its equations are well typed and define each variable once that is no
-/// input, and some node has the name of the main node.
+/// Whether the names and types of a program are in order: its names are declared once and known, its calls
+/// are of nodes and have their arities, no node reaches itself by calls, its equations are well typed and
+/// define each variable once that is no input, and some node has the name of the main node.
 ///
 /// The expected time grows with the size of the program.
 ///
 /// # Errors
 ///
-/// An error other than out of memory reports a rule that is broken: that of the least byte, at equal bytes that of the
-/// least number. Of several nodes that reach themselves only the first in order of text is thought of, at its name.
+/// An error other than out of memory reports a rule that is broken: that of the least byte, at equal bytes
+/// that of the least number. Of several nodes that reach themselves only the first in order of text is
+/// thought of, at its name.
 pub fn names<'a>(alloc: Global, program: &'a Program, main: &'a str) -> Result<Typed<'a>, StatError>
     ensures program { IfOk result (λ typed. typed.program ≡ program.now) }
     ensures main { IfOk result (λ typed. typed.main ≡ main.now) }

@@ -13,8 +13,8 @@ use lutree::{Declaration, Equation, Node};
 use std::alloc::{AllocError, Global};
 use std::marker::Model;
 
-/// The variables that the equations of a node define, lent, with a table of where each stands first. A contract sees the
-/// node.
+/// The variables that the equations of a node define, lent, with a table of where each stands first. A
+/// contract sees the node.
 pub struct Definitions<'a> {
     node: &'a Node,
     lefts: Places<'a>,
@@ -49,7 +49,7 @@ impl<'a> Model for Definitions<'a> {
     ghost invariant = { AreDefinitions };
 }
 
-// The variables of a left side, behind those before.
+/// The variables of a left side, behind those before.
 fn push_left<'a>(names: &mut Vec<&'a str>, left: &'a [Name]) -> Result<(), AllocError>
     ensures { OnOk result (map (λ n. n.now) names.new.items ≡ map (λ n. n.now) names.old.items
         ++ left.now) }
@@ -60,7 +60,7 @@ fn push_left<'a>(names: &mut Vec<&'a str>, left: &'a [Name]) -> Result<(), Alloc
     Ok(())
 }
 
-// The variables of all left sides in a row, and where each equation's begin.
+/// The variables of all left sides in a row, and where each equation's begin.
 fn fill<'a>(
     names: &mut Vec<&'a str>,
     starts: &mut Vec<usize>,
@@ -113,8 +113,8 @@ impl<'a> Definitions<'a> {
         self.starts[equation]
     }
 
-    /// Whether a variable of a left side, at a place of it, stands first in the row of all. The left side begins at a place
-    /// of the row.
+    /// Whether a variable of a left side, at a place of it, stands first in the row of all. The left side
+    /// begins at a place of the row.
     fn stands_first(&self, start: usize, place: usize, name: &str) -> bool
         ensures { IsTrue result ↔ (first_place (lefts_of (map equation_view self.now.equations))
             name.now ≡ Some (start + place)) }
@@ -138,7 +138,8 @@ impl<'a> Definitions<'a> {
     }
 }
 
-/// Whether the variables of a left side, which begins at a place of the row of all, stand there first, and none is an input.
+/// Whether the variables of a left side, which begins at a place of the row of all, stand there first, and
+/// none is an input.
 fn is_anew(scope: &Scope, definitions: &Definitions, start: usize, left: &[Name]) -> bool
     ensures { IsTrue result ↔ ((j : ℕ) → (x : List ℕ) → slice_get left.now j ≡ Some x
         → IsAnew (node_view scope.now) (lefts_of (map equation_view definitions.now.equations))

@@ -39,7 +39,8 @@ fn is_new_node(catalog: &Catalog, place: usize, node: &Node) -> bool
     is_at(catalog.place(node.name.as_str()), place)
 }
 
-/// Whether no variable before has the name of the one at a place, and no name of an enumeration is spelled so.
+/// Whether no variable before has the name of the one at a place, and no name of an enumeration is spelled
+/// so.
 fn is_new_variable(
     catalog: &Catalog,
     scope: &Scope,

@@ -10,7 +10,7 @@ use lustat_rules::Catalog;
 use lutree::{Expr, Node};
 use std::alloc::{AllocError, Global};
 
-// The place of the node that a name means, if it means one, behind those before.
+/// The place of the node that a name means, if it means one, behind those before.
 fn push_call(catalog: &Catalog, name: &str, row: &mut Vec<usize>) -> Result<(), AllocError>
     ensures { OnOk result (row.new.items ≡ row.old.items
         ++ filter_map (node_place (program_view catalog.now)) (name.now ∷ [])) }
@@ -21,7 +21,7 @@ fn push_call(catalog: &Catalog, name: &str, row: &mut Vec<usize>) -> Result<(), 
     Ok(())
 }
 
-// The places of the nodes that an expression calls, behind those before.
+/// The places of the nodes that an expression calls, behind those before.
 #[cycle(calls)]
 fn push_calls(catalog: &Catalog, e: &Expr, row: &mut Vec<usize>) -> Result<(), AllocError>
     ensures { OnOk result (row.new.items ≡ row.old.items
@@ -48,7 +48,7 @@ fn push_calls(catalog: &Catalog, e: &Expr, row: &mut Vec<usize>) -> Result<(), A
     }
 }
 
-// Puts the nodes that all arguments of a call or branches of a merge call behind others.
+/// Puts the nodes that all arguments of a call or branches of a merge call behind others.
 #[cycle(calls)]
 fn push_all_calls(
     catalog: &Catalog,
@@ -65,7 +65,7 @@ fn push_all_calls(
     Ok(())
 }
 
-// The places of the nodes that a node calls.
+/// The places of the nodes that a node calls.
 fn calls_of(alloc: Global, catalog: &Catalog, node: &Node) -> Result<Vec<usize>, AllocError>
     ensures { IfOk result (λ row. row.items ≡ places_called (program_view catalog.now)
         (node_view node.now)) }

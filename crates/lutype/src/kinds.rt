@@ -5,7 +5,7 @@ ghost use Rattle.lustat_rules.specs.Typing.{same_kind, agreed, has_kind, single_
 
 use lutree::{BinaryOperator, Kind, UnaryOperator};
 
-// Whether two types are one.
+/// Whether two types are one.
 fn is_same(j: Kind, k: Kind) -> bool
     ensures { result ≡ same_kind j k }
 {

@@ -20,11 +20,12 @@ pub enum CallOrder {
     Recursive(usize),
 }
 
-/// An order of a program's nodes in which calls go backward, or the first node in order of text that reaches itself by calls.
+/// An order of a program's nodes in which calls go backward, or the first node in order of text that reaches
+/// itself by calls.
 ///
-/// A call means the first node of its name; where there is none, it is passed over. There is an order exactly where no name reaches itself.
-/// A node that merely calls a recursive one isn't reported.
-/// The expected time grows with the length of the program.
+/// A call means the first node of its name; where there is none, it is passed over. There is an order exactly
+/// where no name reaches itself. A node that merely calls a recursive one isn't reported. The expected time
+/// grows with the length of the program.
 ///
 /// # Errors
 ///

@@ -12,7 +12,8 @@ use lustat_rules::{Catalog, Scope, Stage, StatError, lesser};
 use lutree::{Declaration, DeclaredName, Equation, TypeDeclaration};
 use std::alloc::{AllocError, Global};
 
-// The rules of names and types at the places of a program, with the name of its main node. The tests of a node share its definitions.
+/// The rules of names and types at the places of a program, with the name of its main node. The tests of a
+/// node share its definitions.
 #[derive(Drop)]
 pub(crate) struct NameStage<'r, 'a> {
     pub(crate) catalog: &'r Catalog<'a>,
@@ -94,9 +95,9 @@ impl<'r, 'a> Stage<'a> for NameStage<'r, 'a> {
     }
 }
 
-/// The least fault of a program by the rules of names and types, but for that of recursion: that of the least byte, at equal
-/// bytes that of the least number. None where all these rules are kept. Its expected time grows with the size of the
-/// program.
+/// The least fault of a program by the rules of names and types, but for that of recursion: that of the least
+/// byte, at equal bytes that of the least number. None where all these rules are kept. Its expected time
+/// grows with the size of the program.
 pub fn least_fault(
     alloc: Global,
     catalog: &Catalog,

@@ -75,7 +75,7 @@ impl<'r, 'a> Survey<'a> for NameStage<'r, 'a> {
     }
 }
 
-// The fault of recursion: the first node in order of text that reaches itself by calls, at its name.
+/// The fault of recursion: the first node in order of text that reaches itself by calls, at its name.
 fn recursion_fault(alloc: Global, catalog: &Catalog) -> Result<Option<StatError>, AllocError>
     ensures { IfOk result
         (λ told. (e : StatError) → (told ≡ Some e) ↔ IsRecursionFault catalog.now e) }
@@ -89,9 +89,10 @@ fn recursion_fault(alloc: Global, catalog: &Catalog) -> Result<Option<StatError>
     }
 }
 
-/// All faults of a program by the rules of names and types, each once, by byte, at equal bytes by number: those of its places, that
-/// no node has the name of the main node, and of the nodes that reach themselves by calls the first in order of text. The expected
-/// time grows with the size of the program, and with the count of faults times its logarithm.
+/// All faults of a program by the rules of names and types, each once, by byte, at equal bytes by number:
+/// those of its places, that no node has the name of the main node, and of the nodes that reach themselves by
+/// calls the first in order of text. The expected time grows with the size of the program, and with the count
+/// of faults times its logarithm.
 ///
 /// # Errors
 ///

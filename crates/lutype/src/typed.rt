@@ -10,8 +10,8 @@ use lustat_rules::Catalog;
 use lutree::Program;
 use std::marker::Model;
 
-/// A program whose names and types are in order, lent, with the name of its main node and an order of its nodes in which calls
-/// go backward. A contract sees the `Named` of `specs/Named.antt`.
+/// A program whose names and types are in order, lent, with the name of its main node and an order of its
+/// nodes in which calls go backward. A contract sees the `Named` of `specs/Named.antt`.
 pub struct Typed<'a> {
     catalog: Catalog<'a>,
     main: &'a str,
@@ -47,7 +47,7 @@ impl<'a> Model for Typed<'a> {
 }
 
 impl<'a> Typed<'a> {
-    // What the checks found in order.
+    /// What the checks found in order.
     pub(crate) fn new(catalog: Catalog<'a>, main: &'a str, order: Vec<usize>) -> Typed<'a>
         requires { AreInOrder (record { program = catalog; main = main.now; order = order.items }) }
         ensures { result ≡ record {

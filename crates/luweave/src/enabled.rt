@@ -35,8 +35,8 @@ impl World {
         }
     }
 
-    /// The least site whose turn would move, and none where no turn moves any more: then all sites have ended, or some flow
-    /// faults. Changes nothing, and takes no memory.
+    /// The least site whose turn would move, and none where no turn moves any more: then all sites have
+    /// ended, or some flow faults. Changes nothing, and takes no memory.
     pub fn enabled(&self) -> Option<u8>
         ensures moves { (s : ℕ) → result ≡ Some s → turn (system_of self.now.job) self.now.dones s
             ≡ Turn.Moved }

@@ -20,9 +20,9 @@ impl World {
         let _ = self.link_queues.len();
     }
 
-    /// Gives the turn of `enabled` until no turn moves any more. Then all sites have ended, or some flow faults; and the world
-    /// is the one in which every schedule ends that goes on until none does. Looks at each site at most once for each turn
-    /// that moves, which is an item done. Takes no memory.
+    /// Gives the turn of `enabled` until no turn moves any more. Then all sites have ended, or some flow
+    /// faults; and the world is the one in which every schedule ends that goes on until none does. Looks at
+    /// each site at most once for each turn that moves, which is an item done. Takes no memory.
     pub fn finish(&mut self)
         ensures job { self.new.job ≡ self.old.job }
         ensures turns { IsLater self.old.job self.old.dones self.new.dones }

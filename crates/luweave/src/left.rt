@@ -25,10 +25,11 @@ fn left_at(sites: &Vec<Site>, s: usize) -> u64
 }
 
 impl World {
-    /// How many items the sites would still do if every flow not yet passed were present at each instant, those of a site that
-    /// has faulted left out. It is never less than the items still to be done, each turn that moves lowers it by one or more,
-    /// and without a fault it is 0 exactly where all sites have ended. At most 4,295,037,127,032,832. Looks at each flow a few
-    /// times for each site, however many instants there are. Takes no memory.
+    /// How many items the sites would still do if every flow not yet passed were present at each instant,
+    /// those of a site that has faulted left out. It is never less than the items still to be done, each turn
+    /// that moves lowers it by one or more, and without a fault it is 0 exactly where all sites have ended.
+    /// At most 4,295,037,127,032,832. Looks at each flow a few times for each site, however many instants
+    /// there are. Takes no memory.
     pub fn left(&self) -> u64
         ensures left { result ≡ left_of self.now.job self.now.dones }
         ensures enough { undone self.now.job self.now.dones ≤ result }

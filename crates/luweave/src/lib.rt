@@ -1,7 +1,8 @@
 //! The interleaving core: all sites of a job in one thread, by turns.
 //!
 //! - [`World`]: the sites and the links between them; [`Turn`]: what a turn does.
-//! - [`new_sites`]: the sites of a job, before any turn; [`replay`]: a new world of them after the turns of a schedule.
+//! - [`new_sites`]: the sites of a job, before any turn; [`replay`]: a new world of them after the turns of a
+//!   schedule.
 #![tactic(auto)]
 
 mod enabled;

@@ -24,7 +24,8 @@ pub fn goes_on(next: Next) -> bool
 }
 
 impl World {
-    /// What a site does next: nothing more where it has ended or faulted, or where the number is no site's. Takes no memory.
+    /// What a site does next: nothing more where it has ended or faulted, or where the number is no site's.
+    /// Takes no memory.
     pub fn next(&self, site: u8) -> Next
         ensures { IsNext self.now.job site (done self.now.dones site) result }
     {

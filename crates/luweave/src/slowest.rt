@@ -22,8 +22,8 @@ fn instant_of(sites: &Vec<Site>, s: usize) -> u32
 }
 
 impl World {
-    /// The instant, counted from 0, at which the slowest site stands of those that go on; where none goes on, the number of
-    /// instants. Takes no memory.
+    /// The instant, counted from 0, at which the slowest site stands of those that go on; where none goes on,
+    /// the number of instants. Takes no memory.
     pub fn slowest(&self) -> u32
         ensures { result ≡ slowest self.now }
     {

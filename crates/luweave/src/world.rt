@@ -28,8 +28,8 @@ use std::alloc::{AllocError, Global};
 use std::marker::Model;
 use std::snapshot::Snapshot;
 
-/// All sites of a job and the links between them, in one thread. A contract sees the job, and how many items of its script
-/// each site has done.
+/// All sites of a job and the links between them, in one thread. A contract sees the job, and how many items
+/// of its script each site has done.
 pub struct World {
     pub(crate) sites: Vec<Site>,
     pub(crate) link_queues: Vec<LinkQueue>,
@@ -114,9 +114,9 @@ fn take_at(link_queues: &mut Vec<LinkQueue>, l: usize) -> Msg
 }
 
 impl World {
-    /// One turn of a site: a computation, a put or a take. Blocked where the next item is a put into a full link or a take
-    /// from an empty one; Over where the site has ended or faulted, or the number is no site's; both change nothing. A
-    /// computation that faults is Moved. Takes no memory.
+    /// One turn of a site: a computation, a put or a take. Blocked where the next item is a put into a full
+    /// link or a take from an empty one; Over where the site has ended or faulted, or the number is no
+    /// site's; both change nothing. A computation that faults is Moved. Takes no memory.
     pub fn turn(&mut self, site: u8) -> Turn
         ensures turn { result ≡ turn (system_of self.old.job) self.old.dones site }
         ensures job { self.new.job ≡ self.old.job }
@@ -154,8 +154,8 @@ impl World {
 }
 
 impl World {
-    /// What was taken from a link: a prefix of its list, also as the source says it, and the whole list where all sites
-    /// have ended. Takes no memory.
+    /// What was taken from a link: a prefix of its list, also as the source says it, and the whole list where
+    /// all sites have ended. Takes no memory.
     pub fn taken(&self, link: LinkNo) -> &[Msg]
         requires { link < length self.now.job.plan.links }
         ensures exact { result.now ≡ taken_of self.now link }
@@ -171,8 +171,8 @@ impl World {
         taken_at(&self.link_queues, link)
     }
 
-    /// What waits in a link, never more than its capacity: behind what was taken, it goes on with the link's list, also as the
-    /// source says it. Nothing waits where all sites have ended. Takes no memory.
+    /// What waits in a link, never more than its capacity: behind what was taken, it goes on with the link's
+    /// list, also as the source says it. Nothing waits where all sites have ended. Takes no memory.
     pub fn queued(&self, link: LinkNo) -> &[Msg]
         requires { link < length self.now.job.plan.links }
         ensures exact { result.now ≡ queued_of self.now link }
@@ -192,15 +192,16 @@ impl World {
         let _ = self.link_queues.len();
     }
 
-    /// Where no turn moves any more, every schedule that goes on until none does ends in this world, faults or not.
+    /// Where no turn moves any more, every schedule that goes on until none does ends in this world, faults
+    /// or not.
     pub fn same_end(&self)
         ensures { IsOnlyEnd self.now.job self.now.dones }
     {
         let _ = self.link_queues.len();
     }
 
-    /// After any turns each link is within its list, in the source's words, and where all sites have ended its list was taken
-    /// whole and nothing breaks.
+    /// After any turns each link is within its list, in the source's words, and where all sites have ended
+    /// its list was taken whole and nothing breaks.
     pub fn faithful(&self)
         ensures { IsFaithful self.now.job self.now.dones }
     {
@@ -315,8 +316,9 @@ fn outputs_in(sites: &Vec<Site>, k: usize) -> &[Status]
 }
 
 impl World {
-    /// Output k so far: a prefix of its statuses before its first broken one, also as the source says it, as many as its
-    /// site has passed; the whole output where all sites have ended; empty where there is no output k. Takes no memory.
+    /// Output k so far: a prefix of its statuses before its first broken one, also as the source says it, as
+    /// many as its site has passed; the whole output where all sites have ended; empty where there is no
+    /// output k. Takes no memory.
     pub fn outputs(&self, k: usize) -> &[Status]
         ensures collected { IsCollected self.now.job self.now.dones k result.now }
         ensures beyond { slice_get (outputs_of self.now.job.plan) k ≡ None → result.now ≡ [] }
@@ -337,8 +339,8 @@ impl World {
         all_ended(&self.sites)
     }
 
-    /// A world of new sites. It makes all growths of the run: each link has room for all its messages. The world isn't
-    /// handed the inputs.
+    /// A world of new sites. It makes all growths of the run: each link has room for all its messages. The
+    /// world isn't handed the inputs.
     pub fn new(alloc: Global, plan: &Plan, sites: Vec<Site>) -> Result<World, AllocError>
         requires { IsNewWorld plan.now sites.items }
         ensures job { IfOk result (λ x. ForSome (slice_get sites.items 0) (λ v. x.job ≡ v.job)) }
@@ -356,7 +358,8 @@ impl World {
     }
 }
 
-/// The world of new sites after the turns of a schedule, in order: a turn for each number, of the site of that number.
+/// The world of new sites after the turns of a schedule, in order: a turn for each number, of the site of
+/// that number.
 pub fn replay(
     alloc: Global,
     plan: &Plan,

@@ -1,4 +1,5 @@
-//! Turns as a chart: a column for each site, a row for each turn that is reported, and an arrow for a message that is put.
+//! Turns as a chart: a column for each site, a row for each turn that is reported, and an arrow for a message
+//! that is put.
 
 ghost use Rattle.std.specs.Prelude.{◌≡◌, ◌<◌, Some, flat_map, length, slice_get};
 ghost use Rattle.std.specs.List.{range_with_len};
@@ -58,7 +59,8 @@ fn crosses(site: u8, target: u8, column: usize) -> bool
     (from <= column && column < to) || (to <= column && column < from)
 }
 
-/// What stands in a column that isn't the site's own: the head of an arrow, a part of one, or the line of a site that does nothing.
+/// What stands in a column that isn't the site's own: the head of an arrow, a part of one, or the line of a
+/// site that does nothing.
 fn mark(site: u8, target: u8, column: usize) -> &'static str
     ensures { result.now ≡ mark site target column }
 {
@@ -159,7 +161,8 @@ fn put_row(
     text.push_str("\n")
 }
 
-/// Adds a row as far as the chart goes, behind so many others: behind its last row a line says that there are more.
+/// Adds a row as far as the chart goes, behind so many others: behind its last row a line says that there are
+/// more.
 pub(crate) fn put_chart_line(
     alloc: Global,
     text: &mut String,

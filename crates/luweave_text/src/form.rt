@@ -18,8 +18,8 @@ pub struct Tracing {
     pub messages: bool,
     /// Whether the turns are reported too that found no room or no message.
     pub blocked: bool,
-    /// The first instant and the last one, counted from 0, at which the slowest site stands that goes on where a turn is reported; where one
-    /// isn't given, none is cut away there.
+    /// The first instant and the last one, counted from 0, at which the slowest site stands that goes on
+    /// where a turn is reported; where one isn't given, none is cut away there.
     pub from: Option<u32>,
     pub to: Option<u32>,
 }

@@ -4,7 +4,8 @@
 //! - [`trace`]: the world after turns, and what each of them did, line by line or as a chart ([`Tracing`]).
 //! - [`text_of_stands`]: why the sites stand still that are open, or what they can do.
 //! - [`text_of_stray`]: a warning of a turn that is of no site.
-//! - [`dump_by_site`]: outputs over time, as a value change dump in which the sites are scopes; [`output_signals`] are those of a world.
+//! - [`dump_by_site`]: outputs over time, as a value change dump in which the sites are scopes;
+//!   [`output_signals`] are those of a world.
 #![tactic(auto)]
 
 mod charting;

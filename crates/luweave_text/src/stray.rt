@@ -56,8 +56,8 @@ fn put_stray(
     put_last(text, sites)
 }
 
-/// A line for the first turn of a schedule that is of no site of the plan, behind the path of the schedule: its number, counted from 0,
-/// and its site. Nothing where each is of a site.
+/// A line for the first turn of a schedule that is of no site of the plan, behind the path of the schedule:
+/// its number, counted from 0, and its site. Nothing where each is of a site.
 ///
 /// # Errors
 ///

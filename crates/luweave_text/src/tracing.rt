@@ -265,7 +265,8 @@ fn wait_report(
     Ok(line)
 }
 
-/// Whether an instant is among those from one to another, both of them; where one isn't given, nothing is cut there.
+/// Whether an instant is among those from one to another, both of them; where one isn't given, nothing is cut
+/// there.
 fn is_between(from: Option<u32>, to: Option<u32>, instant: u32) -> bool
     ensures { result ≡ is_between from to instant }
 {
@@ -410,11 +411,12 @@ fn opening(alloc: Global, plan: &Plan, form: TraceForm) -> Result<String, AllocE
     Ok(text)
 }
 
-/// The world of new sites after the turns of a schedule, in order; and, where it is to be finished, after more, each of the
-/// least site that can move, until none can. With it, for each turn that moved, how many had moved before, the site,
-/// and what it did: a line each, or a row each of a chart of at most 1,000 rows, which has a column for each site. Of these turns `how` may leave
-/// those out that pass no message, and add those that found no room or no message, with what the site waits for. The sites are gone where
-/// memory ran out.
+/// The world of new sites after the turns of a schedule, in order; and, where it is to be finished, after
+/// more, each of the least site that can move, until none can. With it, for each turn that moved, how many
+/// had moved before, the site, and what it did: a line each, or a row each of a chart of at most 1,000 rows,
+/// which has a column for each site. Of these turns `how` may leave those out that pass no message, and add
+/// those that found no room or no message, with what the site waits for. The sites are gone where memory ran
+/// out.
 pub fn trace(
     alloc: Global,
     plan: &Plan,

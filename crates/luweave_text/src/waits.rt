@@ -178,8 +178,8 @@ fn put_line(text: &mut String, plan: &Plan, world: &World, site: u8) -> Result<(
     Ok(())
 }
 
-/// For each site that is open, in their order, a line: at which instant it stands, and what it waits for, or what it can do. Nothing
-/// where each site has ended or faulted.
+/// For each site that is open, in their order, a line: at which instant it stands, and what it waits for, or
+/// what it can do. Nothing where each site has ended or faulted.
 pub fn text_of_stands(alloc: Global, plan: &Plan, world: &World) -> Result<String, AllocError>
     requires plan_is { world.now.job.plan ≡ plan.now }
     requires all_sites { length world.now.dones ≡ sites_of plan.now }

@@ -142,9 +142,9 @@ fn put_site_header(
     put_closing(text)
 }
 
-/// The value change dump of the outputs of a plan's program, whose main node has this name: an output is declared in the scope of
-/// each site that computes it. Where less is known of one output than of another, it is nil from there on. Else it is as
-/// `luchart::dump` has it.
+/// The value change dump of the outputs of a plan's program, whose main node has this name: an output is
+/// declared in the scope of each site that computes it. Where less is known of one output than of another, it
+/// is nil from there on. Else it is as `luchart::dump` has it.
 ///
 /// # Errors
 ///

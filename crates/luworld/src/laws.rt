@@ -102,13 +102,15 @@ pub fn done_ends_law()
     ensures { DoneEndsLaw }
 {}
 
-/// Without a fault a link's list was put whole where its sender has ended, and taken whole where its receiver has.
+/// Without a fault a link's list was put whole where its sender has ended, and taken whole where its receiver
+/// has.
 pub fn passed_whole_law()
     ensures { PassedWholeLaw }
 {}
 
-/// Worked runs on two or three sites: counters that feed each other, a sum beside a doubled sample on a slow clock, a
-/// division that breaks, and a held sample. Each plan and each table is what a plan and a table have to be.
+/// Worked runs on two or three sites: counters that feed each other, a sum beside a doubled sample on a slow
+/// clock, a division that breaks, and a held sample. Each plan and each table is what a plan and a table have
+/// to be.
 pub fn run_vectors_law()
     ensures { RunVectors }
 {}
@@ -123,14 +125,14 @@ pub fn list_length_law()
     ensures { ListLengthLaw }
 {}
 
-/// Two plans over three sites in full, with needs, links, scripts and lists: a sample that is handed on from a site that doesn't
-/// have its clock, and a clock on a clock.
+/// Two plans over three sites in full, with needs, links, scripts and lists: a sample that is handed on from
+/// a site that doesn't have its clock, and a clock on a clock.
 pub fn plan_vectors_law()
     ensures { PlanVectors }
 {}
 
-/// Runs without instants, a site without items, what is left where something is passed as absent or never comes, and counts
-/// of the examples.
+/// Runs without instants, a site without items, what is left where something is passed as absent or never
+/// comes, and counts of the examples.
 pub fn idle_vectors_law()
     ensures { IdleVectors }
 {}

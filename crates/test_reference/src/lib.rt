@@ -1,16 +1,18 @@
-//! The reference for sites and links: plain programs, slow, with all marks in memory, and each with a definition as its
-//! contract. Tests compare the machines with them. Their own tests are cases of `test_transcript`.
+//! The reference for sites and links: plain programs, slow, with all marks in memory, and each with a
+//! definition as its contract. Tests compare the machines with them. Their own tests are cases of
+//! `test_transcript`.
 //!
 //! - [`marks_of`]: what each flow has at the first instants; [`Mark`], [`Marks`].
 //! - [`list_of_link`]: all that a link carries.
 //! - [`script_of`]: all that a site does, in order; [`Item`].
-//! - [`world_after`]: how far each site is after a schedule; [`scripts_of`] and [`world_by`] for many schedules of one job.
+//! - [`world_after`]: how far each site is after a schedule; [`scripts_of`] and [`world_by`] for many
+//!   schedules of one job.
 //!
 //! # Links
 //!
-//! The links of a run over a channel under a rule: the reference for `lulink`, under the same names and the same
-//! definitions. What a link does is the same, call by call. What differs: a try may wait (it takes a handle), and no
-//! contract speaks of words, since a channel has none.
+//! The links of a run over a channel under a rule: the reference for `lulink`, under the same names and the
+//! same definitions. What a link does is the same, call by call. What differs: a try may wait (it takes a
+//! handle), and no contract speaks of words, since a channel has none.
 //!
 //! - [`open_link`]: both ends of a link; [`Tx`]: the sender's end; [`Rx`]: the receiver's end.
 #![tactic(auto)]

@@ -1,5 +1,5 @@
-//! What a flow has at an instant, by the definitions, from the marks of a grid. What lies before the instant is looked up
-//! anew each time.
+//! What a flow has at an instant, by the definitions, from the marks of a grid. What lies before the instant
+//! is looked up anew each time.
 
 ghost use Rattle.std.specs.Prelude.{◌≡◌, Some, map, slice_get};
 ghost use Rattle.luflow.specs.Program.{column_of};

@@ -15,8 +15,9 @@ use std::marker::Brand;
 use std::snapshot::Snapshot;
 use std::sync::Arc;
 
-/// Opens a link of this job, with room for this many messages (at least one). Both ends are of one channel, know which link
-/// of which job they are of, and may go to two threads. A number that is no link's has an empty list: nothing can be put.
+/// Opens a link of this job, with room for this many messages (at least one). Both ends are of one channel,
+/// know which link of which job they are of, and may go to two threads. A number that is no link's has an
+/// empty list: nothing can be put.
 ///
 /// All memory that the two ends ever use is taken here. `OutOfMemory`: nothing was made.
 pub fn open_link(

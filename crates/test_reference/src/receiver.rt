@@ -15,7 +15,8 @@ use std::snapshot::Snapshot;
 use std::sync::{Arc, Wait};
 use std::thread;
 
-/// The receiver's end. A contract sees its job and link, the capacity, and what was taken. An end that is dropped leaves.
+/// The receiver's end. A contract sees its job and link, the capacity, and what was taken. An end that is
+/// dropped leaves.
 pub struct Rx {
     pub(crate) end: Receives,
     pub(crate) link_pass: LinkPass,
@@ -44,7 +45,8 @@ impl Rx {
         self.link
     }
 
-    /// Takes the next message of the link's list, if it is there. `None`: nothing was taken. Tries once. Takes no memory.
+    /// Takes the next message of the link's list, if it is there. `None`: nothing was taken. Tries once.
+    /// Takes no memory.
     pub fn poll<R: Wait>(&mut self, rt: &R) -> Option<Msg>
         ensures taken { TakenOrNot result self.old self.new }
         ensures whole { IfSome result (λ m. IsWholeAt m self.new) }
@@ -62,8 +64,8 @@ impl Rx {
         self.doors.sender_left()
     }
 
-    /// Takes the next message of the link's list. Waits while the link is empty and the sender is there. `Gone`: nothing was
-    /// taken. Takes no memory.
+    /// Takes the next message of the link's list. Waits while the link is empty and the sender is there.
+    /// `Gone`: nothing was taken. Takes no memory.
     pub fn take<R: Wait>(&mut self, rt: &R) -> Result<Msg, TakeError>
         ensures taken { IfOk result (λ m. HasTaken m self.old self.new × IsNextToTake self.old m) }
         ensures whole { IfOk result (λ m. IsWholeAt m self.new) }
@@ -91,7 +93,8 @@ impl Rx {
         let _link = self.link;
     }
 
-    /// Ends the use of this end, as dropping it does: the sender's `gone` is true from then on. Takes no memory.
+    /// Ends the use of this end, as dropping it does: the sender's `gone` is true from then on. Takes no
+    /// memory.
     pub fn leave(self) {}
 }
 

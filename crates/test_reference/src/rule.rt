@@ -1,4 +1,5 @@
-//! The rule of a link's channel: what was put is what was taken and then what the channel holds, and it is a prefix of the link's list.
+//! The rule of a link's channel: what was put is what was taken and then what the channel holds, and it is a
+//! prefix of the link's list.
 
 ghost use Rattle.std.specs.Prelude.{◌≡◌, []};
 ghost use Rattle.test_reference.specs.Links.{fresh, sender, receiver};
@@ -20,7 +21,8 @@ pub enum Role {
     Consumer,
 }
 
-/// What a pass knows: its role, the channel's capacity, the link's list, and what its end has put or taken. No value of it is made.
+/// What a pass knows: its role, the channel's capacity, the link's list, and what its end has put or taken.
+/// No value of it is made.
 pub struct PassState {
     pub role: Role,
     pub room: u64,

@@ -149,7 +149,8 @@ fn cut(alloc: Global, job: &Job, grid: &Grid, items: &[Item]) -> Result<Vec<Item
     Ok(kept)
 }
 
-/// All that a site does in a run, in order: its script, which a fault may cut short. None of it for what is no site.
+/// All that a site does in a run, in order: its script, which a fault may cut short. None of it for what is
+/// no site.
 pub fn script_of(alloc: Global, job: &Job, site: u8) -> Result<Vec<Item>, AllocError>
     ensures { IfOk result (λ items. map as_item items.items
         ≡ script job.now (streams_of job.now) site) }

@@ -15,7 +15,8 @@ use std::snapshot::Snapshot;
 use std::sync::{Arc, Wait};
 use std::thread;
 
-/// The sender's end. A contract sees its job and link, the capacity, and what was put. An end that is dropped leaves.
+/// The sender's end. A contract sees its job and link, the capacity, and what was put. An end that is dropped
+/// leaves.
 pub struct Tx {
     pub(crate) end: Sends,
     pub(crate) link_pass: LinkPass,
@@ -46,8 +47,8 @@ impl Tx {
         self.link
     }
 
-    /// Puts the next message of the link's list, if there is room. `Full` hands it back: nothing was put. Tries once. Takes
-    /// no memory.
+    /// Puts the next message of the link's list, if there is room. `Full` hands it back: nothing was put.
+    /// Tries once. Takes no memory.
     pub fn offer<R: Wait>(&mut self, rt: &R, msg: Msg) -> Offer
         requires { IsNextToPut self.old msg }
         ensures put { PutOrBack result msg self.old self.new }
@@ -68,10 +69,10 @@ impl Tx {
         self.doors.receiver_left()
     }
 
-    /// Puts the next message of the link's list. Waits while the link is full and the receiver is there; a link with room
-    /// takes the message also where the receiver has left. `Gone` hands the message back: nothing was put. The link was full at
-    /// one look, and the receiver had left at the next; what it took between the two has made room, which an `offer` reports.
-    /// Takes no memory.
+    /// Puts the next message of the link's list. Waits while the link is full and the receiver is there; a
+    /// link with room takes the message also where the receiver has left. `Gone` hands the message back:
+    /// nothing was put. The link was full at one look, and the receiver had left at the next; what it took
+    /// between the two has made room, which an `offer` reports. Takes no memory.
     pub fn put<R: Wait>(&mut self, rt: &R, msg: Msg) -> Result<(), PutError>
         requires { IsNextToPut self.old msg }
         ensures put { IfOk result (λ _. HasPut msg self.old self.new) }
@@ -99,7 +100,8 @@ impl Tx {
         let _link = self.link;
     }
 
-    /// Ends the use of this end, as dropping it does: the receiver's `gone` is true from then on. Takes no memory.
+    /// Ends the use of this end, as dropping it does: the receiver's `gone` is true from then on. Takes no
+    /// memory.
     pub fn leave(self) {}
 }
 

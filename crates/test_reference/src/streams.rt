@@ -11,7 +11,8 @@ use crate::mark::Marks;
 use luflow::{Flat, Inputs};
 use std::alloc::{AllocError, Global};
 
-/// For each flow, by place, what it has at the first `count` instants in the one solution of the program at the table.
+/// For each flow, by place, what it has at the first `count` instants in the one solution of the program at
+/// the table.
 pub fn marks_of(
     alloc: Global,
     flat: &Flat,

@@ -1,5 +1,5 @@
-//! The world after a schedule: how many items of its script each site has done. All puts and takes are counted anew at each
-//! turn.
+//! The world after a schedule: how many items of its script each site has done. All puts and takes are
+//! counted anew at each turn.
 
 ghost use Rattle.std.specs.Prelude.{◌≡◌, ◌+◌, IfOk, Some, count_by, nat_lt, slice_set, take};
 ghost use Rattle.luworld.specs.Needs.{sites_of};
@@ -159,7 +159,8 @@ fn step(job: &Job, scripts: &[Row<Item>], world: &mut Vec<usize>, site: usize)
     }
 }
 
-/// How many items of its script each site has done after the turns of a schedule, where the scripts are given.
+/// How many items of its script each site has done after the turns of a schedule, where the scripts are
+/// given.
 pub fn world_by(
     alloc: Global,
     job: &Job,

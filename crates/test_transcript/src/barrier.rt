@@ -10,8 +10,9 @@ const LOOKS: u64 = 10_000_000;
 /// How often it looks for one that isn't to come.
 const FEW_LOOKS: u64 = 100_000;
 
-/// A gate at which each of two sites waits the first time that it is named, until the other one is named too, or for so many looks. Where one
-/// thread serves both, the other one isn't named meanwhile. It counts the runs that are given up.
+/// A gate at which each of two sites waits the first time that it is named, until the other one is named too,
+/// or for so many looks. Where one thread serves both, the other one isn't named meanwhile. It counts the
+/// runs that are given up.
 #[derive(Drop)]
 pub struct Barrier {
     looks: u64,
@@ -22,7 +23,8 @@ pub struct Barrier {
 }
 
 impl Barrier {
-    /// A gate of the part that a word names: two threads `meet`, or one is `alone`; for any other word nobody waits.
+    /// A gate of the part that a word names: two threads `meet`, or one is `alone`; for any other word nobody
+    /// waits.
     pub fn new(part: &str) -> Barrier {
         let looks = match part {
             "meet" => LOOKS,

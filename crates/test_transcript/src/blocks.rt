@@ -1,5 +1,5 @@
-//! Sites that work in blocks of instants, or once an instant: those of a whole job, or one that works in blocks over links whose other ends
-//! a thread of the line's own holds.
+//! Sites that work in blocks of instants, or once an instant: those of a whole job, or one that works in
+//! blocks over links whose other ends a thread of the line's own holds.
 
 ghost use Rattle.std.specs.Prelude.{◌≡◌, ◌<◌, ℕ, IfOk, Some, slice_get};
 ghost use Rattle.luworld.specs.Needs.{sites_of};
@@ -31,8 +31,9 @@ fn last_of(stations: Option<Vec<Station>>) -> Option<Station> {
     stations?.pop()
 }
 
-/// The stations of a job that a line asks for, in blocks or once an instant: all, `none`, that of the `first` site, or `strangers`: both, but of
-/// two sets of stations, so that the other ends of their links are dropped. None where a site can't go on so.
+/// The stations of a job that a line asks for, in blocks or once an instant: all, `none`, that of the `first`
+/// site, or `strangers`: both, but of two sets of stations, so that the other ends of their links are
+/// dropped. None where a site can't go on so.
 fn chosen(alloc: Global, job: &Job, line: &str) -> Result<Option<Vec<Station>>, AllocError> {
     let engine = match word(line, 0) {
         "lists" => Engine::Lists,
@@ -56,8 +57,8 @@ fn chosen(alloc: Global, job: &Job, line: &str) -> Result<Option<Vec<Station>>, 
     Ok(Some(chosen))
 }
 
-/// Writes what the stations answer that a line asks for, by so many workers; where the part is `meet`, each site's first block waits for the
-/// other's.
+/// Writes what the stations answer that a line asks for, by so many workers; where the part is `meet`, each
+/// site's first block waits for the other's.
 fn put_crew<R: Threads + Wait + Clock + Sync>(
     threads: &R,
     rt: &HostRuntime,
@@ -157,7 +158,8 @@ fn sending(alloc: Global, job: &Job) -> Result<Option<(RowStation, (Rx, Rx))>, A
     }
 }
 
-/// The station of the second site, which takes from the first two links, and the senders of these with their lists.
+/// The station of the second site, which takes from the first two links, and the senders of these with their
+/// lists.
 fn receiving<'l>(
     alloc: Global,
     job: &Job,

@@ -1,5 +1,5 @@
-//! The plain programs of `test_reference` at two counters that feed each other, each at a site of its own, with a step of 1 and with
-//! one so large that the second sum has no value; and what a site is handed.
+//! The plain programs of `test_reference` at two counters that feed each other, each at a site of its own,
+//! with a step of 1 and with one so large that the second sum has no value; and what a site is handed.
 
 use crate::jobs::job_of_texts;
 use luflow::{Body, Datum, Msg, Status};
@@ -16,9 +16,9 @@ type ScriptItem = (u8, usize, usize, Item);
 /// Turns, how often they are taken, and how much each site has done then.
 type Reached = (&'static [u8], usize, &'static [usize]);
 
-/// What the plain programs say of a program of two variables at two sites, `a` at the first and `b` at the second, over three
-/// instants: the first marks of flows, the lists of the links and of what is no link, items, and how much the sites have done
-/// after some turns, so many times.
+/// What the plain programs say of a program of two variables at two sites, `a` at the first and `b` at the
+/// second, over three instants: the first marks of flows, the lists of the links and of what is no link,
+/// items, and how much the sites have done after some turns, so many times.
 struct Counted {
     program: &'static str,
     marks: &'static [FlowMarks],

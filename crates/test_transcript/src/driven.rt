@@ -1,5 +1,5 @@
-//! Two sites of a job, each in a thread, over the two links from the first to the second: by items that are done one by one, up
-//! to a number of them. Each message is looked at as it comes.
+//! Two sites of a job, each in a thread, over the two links from the first to the second: by items that are
+//! done one by one, up to a number of them. Each message is looked at as it comes.
 
 ghost use Rattle.std.specs.Prelude.{◌≡◌, ◌≤◌, ◌+◌, IfSome, ℕ, count_by, length, slice_get, take};
 ghost use Rattle.std.specs.Thread.{IsSync};
@@ -39,9 +39,10 @@ pub struct Feeder<'l> {
 }
 
 impl Feeder<'_> {
-    /// Puts the next message of the list. False where that isn't this one, or where the receiver has left and the link is full. What
-    /// comes back is offered once more: what the receiver took last, after the put had found the link full, has made room. So which
-    /// message is the last to go in depends on what the receiver took, and not on which thread was quicker.
+    /// Puts the next message of the list. False where that isn't this one, or where the receiver has left and
+    /// the link is full. What comes back is offered once more: what the receiver took last, after the put had
+    /// found the link full, has made room. So which message is the last to go in depends on what the receiver
+    /// took, and not on which thread was quicker.
     fn put<R: Wait>(&mut self, rt: &R, msg: Msg) -> bool {
         let Some(next) = self.list.get(self.at).copied() else {
             return false;
@@ -127,8 +128,8 @@ fn next_of(script: &[Item], first: &[Msg], second: &[Msg], link: usize, done: us
     }
 }
 
-/// Does the first site's items, so many at most, and leaves its ends; how many it did. It stops where the site is over, its next item
-/// takes, or a put isn't done.
+/// Does the first site's items, so many at most, and leaves its ends; how many it did. It stops where the
+/// site is over, its next item takes, or a put isn't done.
 fn first_site<R: Wait>(
     rt: &R,
     mut site: Site,
@@ -160,8 +161,8 @@ fn first_site<R: Wait>(
     (site.report(), done)
 }
 
-/// Does the second site's items, so many at most, and leaves its ends; how many it did. It stops where the site is over, its next item
-/// puts, nothing is left to take, or what was taken isn't the next of its list.
+/// Does the second site's items, so many at most, and leaves its ends; how many it did. It stops where the
+/// site is over, its next item puts, nothing is left to take, or what was taken isn't the next of its list.
 fn second_site<R: Wait>(
     rt: &R,
     mut site: Site,
@@ -201,7 +202,8 @@ fn second_site<R: Wait>(
     (site.report(), done)
 }
 
-/// What both sites leave, and how many items each did, so many at most: over the sender's and the receiver's ends of both links.
+/// What both sites leave, and how many items each did, so many at most: over the sender's and the receiver's
+/// ends of both links.
 pub fn driven<R: Threads + Wait + Sync>(
     rt: &R,
     sites: (Site, Site),

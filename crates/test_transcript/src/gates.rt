@@ -18,11 +18,11 @@ const EACH: u64 = 5;
 enum Rule {
     /// None.
     Open,
-    /// Each, until the other site has come to its own of that number. It fails where a site doesn't stand at the instant of its item,
-    /// of which each has five.
+    /// Each, until the other site has come to its own of that number. It fails where a site doesn't stand at
+    /// the instant of its item, of which each has five.
     Meet,
-    /// The first put of the first site, until the second one has come to its first item, a take, and then for some looks more:
-    /// meanwhile the second can't come to its next.
+    /// The first put of the first site, until the second one has come to its first item, a take, and then for
+    /// some looks more: meanwhile the second can't come to its next.
     Hold,
     /// Each, for some turns of the other threads: as many as a seed, the site and the item's number give.
     Scatter(u64),

@@ -115,7 +115,8 @@ fn nanos_since(clock: &impl Clock, start: &Instant) -> io::Result<u64> {
     Ok(whole.saturating_add(u64::from(span.subsec_nanos())))
 }
 
-/// Does a case over a job's list, and writes what it comes to; of one that is done several times, how long it took too.
+/// Does a case over a job's list, and writes what it comes to; of one that is done several times, how long it
+/// took too.
 fn timed<R: Threads + Wait + Sync + Clock + Print>(
     rt: &R,
     alloc: Global,

@@ -1,6 +1,6 @@
-//! What the program answers to whole commands, what is printed of texts, what links pass, and what jobs on threads and by crews
-//! come to. The input is a transcript of cases with no answers in it, and the output is the same transcript with what each of them
-//! answers; README.md and LINES.md have the forms of its lines.
+//! What the program answers to whole commands, what is printed of texts, what links pass, and what jobs on
+//! threads and by crews come to. The input is a transcript of cases with no answers in it, and the output is
+//! the same transcript with what each of them answers; README.md and LINES.md have the forms of its lines.
 #![tactic(auto)]
 
 mod barrier;
@@ -62,7 +62,8 @@ impl Files for Case<'_> {
     }
 }
 
-/// Adds what stands behind a backslash: a line feed for `n`, or the byte of two hexadecimal digits, and then the rest.
+/// Adds what stands behind a backslash: a line feed for `n`, or the byte of two hexadecimal digits, and then
+/// the rest.
 fn push_escaped(bytes: &mut Vec<u8>, part: &str) -> Result<(), AllocError> {
     if let Some(rest) = part.strip_prefix('n') {
         bytes.push(b'\n')?;
@@ -138,7 +139,8 @@ fn put_written(rt: &HostRuntime, dumps: &[Dump]) -> io::Result<()> {
     Ok(())
 }
 
-/// Writes an output, what was written into files, behind `! ` what went to the error stream, and behind `= ` a status.
+/// Writes an output, what was written into files, behind `! ` what went to the error stream, and behind `= `
+/// a status.
 fn put_reported(
     rt: &HostRuntime,
     dumps: &[Dump],
@@ -155,8 +157,8 @@ fn put_reported(
     println!(rt; "= {status}")
 }
 
-/// Writes what a command answers: its output, behind `! ` what went to the error stream, and behind `= ` its status. Where `is_full`
-/// says so, its output takes nothing.
+/// Writes what a command answers: its output, behind `! ` what went to the error stream, and behind `= ` its
+/// status. Where `is_full` says so, its output takes nothing.
 fn put_answer<R: Threads + Wait + Clock + Sync, P: Progress>(
     threads: &R,
     rt: &HostRuntime,

@@ -7,8 +7,8 @@ use std::{io, thread};
 /// How often a site that tells first looks for the other one.
 const LOOKS: u64 = 10_000_000;
 
-/// Holds the first report of each of two sites until the other site's thread brings its own too. Where one thread serves both,
-/// that never comes.
+/// Holds the first report of each of two sites until the other site's thread brings its own too. Where one
+/// thread serves both, that never comes.
 #[derive(Drop)]
 pub struct Meeting {
     first: AtomicU64,

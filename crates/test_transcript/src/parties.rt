@@ -173,7 +173,8 @@ fn put_all(
     put_outputs(rt, job, collect(rt.alloc(), reports))
 }
 
-/// Drives the two sites of a job up to the numbers of items that a line names, by what the plain programs say, and writes what both leave.
+/// Drives the two sites of a job up to the numbers of items that a line names, by what the plain programs
+/// say, and writes what both leave.
 fn put_sites<R: Threads + Wait + Sync>(
     threads: &R,
     rt: &HostRuntime,
@@ -204,8 +205,8 @@ pub fn lists_of(alloc: Global, job: &Job) -> Result<(Vec<Msg>, Vec<Msg>), AllocE
     Ok((first, second))
 }
 
-/// Drives the two sites of a job up to the numbers of items that a line names, and writes what both leave, what was taken from the
-/// first two links, and what both reports say together.
+/// Drives the two sites of a job up to the numbers of items that a line names, and writes what both leave,
+/// what was taken from the first two links, and what both reports say together.
 pub fn put_driven<R: Threads + Wait + Sync>(
     threads: &R,
     rt: &HostRuntime,

@@ -24,7 +24,8 @@ fn put_both(rt: &HostRuntime, first: &str, again: &str) -> io::Result<()> {
     println!(rt; "= kept {}", first == again)
 }
 
-/// Writes what is printed of a file, and whether that is printed again from what is read of it; or the line of its refusal.
+/// Writes what is printed of a file, and whether that is printed again from what is read of it; or the line
+/// of its refusal.
 pub fn put_printed<F: Files>(rt: &HostRuntime, files: &F, path: &str) -> io::Result<()> {
     let text = text_in(rt.alloc(), files, path)?;
     let first = printed(rt.alloc(), text.as_str())?;

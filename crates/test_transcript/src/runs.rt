@@ -13,8 +13,8 @@ use std::sync::Wait;
 use std::sync::atomic::Ordering;
 use std::thread::Threads;
 
-/// The stations of a job of two sites: all, `none`, that of the `first` site, or `strangers`: both, but of two sets of stations, so
-/// that the other ends of their links are dropped.
+/// The stations of a job of two sites: all, `none`, that of the `first` site, or `strangers`: both, but of
+/// two sets of stations, so that the other ends of their links are dropped.
 fn chosen(alloc: Global, job: &Job, part: &str) -> Result<Vec<Station>, AllocError> {
     if part == "none" {
         return Ok(Vec::new(alloc));
@@ -105,8 +105,8 @@ fn put_chosen<R: Threads + Wait + Clock + Sync>(
     }
 }
 
-/// Runs the stations that a line asks for, by its workers and under its gate, and writes what they answer, how many items each of the
-/// first two sites came to, and how far it was.
+/// Runs the stations that a line asks for, by its workers and under its gate, and writes what they answer,
+/// how many items each of the first two sites came to, and how far it was.
 pub fn put_run<R: Threads + Wait + Clock + Sync>(
     threads: &R,
     rt: &HostRuntime,

@@ -1,4 +1,5 @@
-//! An example by many schedules at several capacities, and by several crews: each has to end as its evaluation does.
+//! An example by many schedules at several capacities, and by several crews: each has to end as its
+//! evaluation does.
 
 use crate::folder::NoFile;
 use lusdist_answers::serve;
@@ -173,7 +174,8 @@ fn replays_kept<R: Threads + Wait + Clock + Sync, F: Files>(
     Ok(kept)
 }
 
-/// How many random schedules keep the outputs of an example with this table, at the capacity that the files have.
+/// How many random schedules keep the outputs of an example with this table, at the capacity that the files
+/// have.
 fn schedules_kept<R: Threads + Wait + Clock + Sync, F: Files>(
     threads: &R,
     alloc: Global,
@@ -279,7 +281,8 @@ fn put_each<R: Threads + Wait + Clock + Sync, F: Files>(
     Ok(())
 }
 
-/// Writes how many of so many schedules of an example, and of its crews, end as its evaluation does, at each capacity.
+/// Writes how many of so many schedules of an example, and of its crews, end as its evaluation does, at each
+/// capacity.
 pub fn put_tried<R: Threads + Wait + Clock + Sync, F: Files>(
     threads: &R,
     rt: &HostRuntime,

@@ -23,7 +23,8 @@ fn workers_of(line: &str) -> Workers
     }
 }
 
-/// How the sites of a line go on: by `rows`, by `lists`, by `items`, or for any other word as the plan allows.
+/// How the sites of a line go on: by `rows`, by `lists`, by `items`, or for any other word as the plan
+/// allows.
 fn way_of(line: &str) -> Option<Engine> {
     match word(line, 5) {
         "rows" => Some(Engine::Rows),
@@ -52,8 +53,8 @@ fn put_seen(rt: &HostRuntime, gate: &Barrier, part: &str) -> io::Result<()> {
     )
 }
 
-/// Runs a job by the workers and in the way that a line asks for, and writes what it answers, how many runs were given up, and whether two
-/// threads met, where the line asks for that.
+/// Runs a job by the workers and in the way that a line asks for, and writes what it answers, how many runs
+/// were given up, and whether two threads met, where the line asks for that.
 pub fn put_whole<R: Threads + Wait + Clock + Sync>(
     threads: &R,
     rt: &HostRuntime,

@@ -52,7 +52,8 @@ fn put_moved(rt: &HostRuntime, world: &mut World) -> io::Result<()> {
     put_state(rt, world)
 }
 
-/// Writes what a world has left: after the turns of the line's last word, or, where that is `finish`, when no turn moves.
+/// Writes what a world has left: after the turns of the line's last word, or, where that is `finish`, when no
+/// turn moves.
 pub fn put_left(rt: &HostRuntime, job: &Job, line: &str) -> io::Result<()> {
     let last = word(line, 4);
     let turns = if last == "finish" { "" } else { last };

@@ -1,15 +1,16 @@
 //! Where the first fault of a program is, which operator of its text that is, and what it reads there.
 
 use lucore::flatten;
-use luinside::{FaultSite, FoundFault, fault_place, operator_at};
 use luflow::{Datum, FaultKind, Flat, Inputs, Values};
+use luinside::{FaultSite, FoundFault, fault_place, operator_at};
 use lustat::{Checked, check};
 use lusyn::read_program;
 use lutree::Program;
 use std::alloc::{AllocError, Global};
 
-/// A fault as it is listed here: the instant, the kind and the operands; the calls that lead to the operator's instance, the place of
-/// its node in the text, the place of its equation, and the numbers of the operands that have it inside.
+/// A fault as it is listed here: the instant, the kind and the operands; the calls that lead to the
+/// operator's instance, the place of its node in the text, the place of its equation, and the numbers of the
+/// operands that have it inside.
 #[derive(Clone, Copy)]
 struct Line {
     instant: u32,

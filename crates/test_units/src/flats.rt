@@ -25,8 +25,8 @@ enum Shape {
 /// A flow's form, its clock and its type.
 type Row = (Shape, Clock, Kind);
 
-/// A program's text, with its flows, their places in order of rank, and for each flow the number of the main variable in whose
-/// equation it stands.
+/// A program's text, with its flows, their places in order of rank, and for each flow the number of the main
+/// variable in whose equation it stands.
 struct Listing {
     text: &'static str,
     flows: &'static [Row],
@@ -333,7 +333,8 @@ const CALLER: &str =
 /// The called node stands first.
 const ORDER: &[usize] = &[1, 0];
 
-/// Of `x`, `y`, `a` and the two equations of the main node, and of `x`, `y` and the equation of the called one.
+/// Of `x`, `y`, `a` and the two equations of the main node, and of `x`, `y` and the equation of the called
+/// one.
 const CLASSES: [&[bool]; 2] = [&[false, false, true, true, false], &[false, false, false]];
 
 /// Whether the program, its main node, their order and their classes are lent.

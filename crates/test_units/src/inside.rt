@@ -1,4 +1,5 @@
-//! The instances of called nodes, where they begin in the flat program, and where their calls stand in the text.
+//! The instances of called nodes, where they begin in the flat program, and where their calls stand in the
+//! text.
 
 use lucore::flatten;
 use luflow::Form;
@@ -8,8 +9,9 @@ use lusyn::read_program;
 use lutree::Program;
 use std::alloc::Global;
 
-/// An instance as it is listed here: the calls that lead to it, the place of its node in the text, the place of its first variable,
-/// and the place that this variable, an input, is a copy of; the main node's inputs are none.
+/// An instance as it is listed here: the calls that lead to it, the place of its node in the text, the place
+/// of its first variable, and the place that this variable, an input, is a copy of; the main node's inputs
+/// are none.
 type Line = (&'static [usize], usize, usize, Option<usize>);
 
 /// A program's text with its instances.
@@ -19,7 +21,8 @@ struct Listing {
 }
 
 const LISTINGS: &[Listing] = &[
-    // Two calls of one node in an equation, one inside the other's argument, and an instance inside an instance.
+    // Two calls of one node in an equation, one inside the other's argument, and an instance inside an
+    // instance.
     Listing {
         text: "node twice(a: int) returns (b: int); let b = a + a; tel node both(c: int) returns (d: int); var e: int; let e = 1 + c; d = twice(e + 1) + 3; tel node main(x: int) returns (y, z: int); let y = twice(2 * twice(x)); z = both(y - 1) + twice(x); tel",
         lines: &[

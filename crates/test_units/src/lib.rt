@@ -3,9 +3,11 @@
 //! Of plain data, graphs, stages alone, flat programs and the evaluator:
 //!
 //! - `lists`, `graph`: plain data, and graphs (`lubase`).
-//! - `stages`: clocks and initialisation of texts that the stage before refuses, and of programs that no text has.
+//! - `stages`: clocks and initialisation of texts that the stage before refuses, and of programs that no text
+//!   has.
 //! - `surveys`: all faults of the first stage that has any (`lustat`).
-//! - `flats`: what a program that keeps all rules lends, and flat lists with their ranks and owners (`lustat`, `lucore`).
+//! - `flats`: what a program that keeps all rules lends, and flat lists with their ranks and owners
+//!   (`lustat`, `lucore`).
 //! - `inside`: instances of called nodes (`luinside`).
 //! - `faults`: where the first fault is, and which operator of the source that is (`luinside`).
 //! - `operators`: operators at data of the wrong types and at nil (`lueval`).

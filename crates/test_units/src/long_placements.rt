@@ -4,7 +4,8 @@ use luplace_file::{PlaceError, read_place};
 use std::alloc::{AllocError, Global};
 use std::test::Fail;
 
-/// A text, then ten thousand lines or members, which have the numbers from 0 on between a front and a back, and an end.
+/// A text, then ten thousand lines or members, which have the numbers from 0 on between a front and a back,
+/// and an end.
 fn numbered(
     alloc: Global,
     begin: &str,

@@ -1,4 +1,5 @@
-//! Operators where no program that keeps all rules asks them: of the wrong types, and of nil; and the lines of faults.
+//! Operators where no program that keeps all rules asks them: of the wrong types, and of nil; and the lines
+//! of faults.
 
 use lueval::{Datum, EvalError, choice, double, single};
 use luflow::{FaultKind, Outcome};

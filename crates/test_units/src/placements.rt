@@ -4,8 +4,8 @@ use luplace_file::{Place, PlaceError, Placed, read_place};
 use std::alloc::Global;
 use std::test::Fail;
 
-/// What a text is read as: its sites, the numbers of the default ones, its capacity, its variables and the numbers of
-/// their sites.
+/// What a text is read as: its sites, the numbers of the default ones, its capacity, its variables and the
+/// numbers of their sites.
 type Read = (
     &'static [&'static str],
     &'static [u8],
@@ -57,7 +57,8 @@ const TEXTS: &[(&str, Read)] = &[
         "version = 1\nsites = [\"A\", \"B\"]\ndefault = \"B\"\n",
         (&["A", "B"], &[1], 16, &[]),
     ),
-    // The keys of `place` are in order of their bytes, whatever their order in the text. They need not be spelled as variables.
+    // The keys of `place` are in order of their bytes, whatever their order in the text. They need not be
+    // spelled as variables.
     (
         "place = { z = \"A\", \"9\" = \"B\", sites = \"B\" }\nsites = [\"A\", \"B\"]\ncapacity = 1024\n",
         (

@@ -1,5 +1,5 @@
-//! What a stage alone reports of programs that an earlier stage refuses: texts, and programs that no text has, with an equation
-//! that has no variable on its left.
+//! What a stage alone reports of programs that an earlier stage refuses: texts, and programs that no text
+//! has, with an equation that has no variable on its left.
 
 use lubase::{Name, Number, Row, SharedName};
 use lustat_clocks::clock_fault;
@@ -260,7 +260,8 @@ fn equations_without_variables_are_judged(rt: HostRuntime) -> Result<(), Fail> {
     Ok(())
 }
 
-/// Whether names mean their first declarations in `node f(x: int; c: bool) returns (y: int; x: bool); var v: int when not c`.
+/// Whether names mean their first declarations in `node f(x: int; c: bool) returns (y: int; x: bool); var v:
+/// int when not c`.
 fn looks_up(scope: &Scope) -> bool {
     scope.kind("x") == Some(Kind::Int)
         && scope.place("v") == Some(4)
@@ -270,7 +271,8 @@ fn looks_up(scope: &Scope) -> bool {
         && !scope.is_input("y")
 }
 
-/// Whether a call means the first of two nodes `f`, with another one between them, and the second defines what isn't declared.
+/// Whether a call means the first of two nodes `f`, with another one between them, and the second defines
+/// what isn't declared.
 fn finds(catalog: &Catalog) -> bool {
     catalog.place("f") == Some(0)
         && catalog.find("g").is_some()
