@@ -1,4 +1,5 @@
 pub mod Solutions
+pub mod Prefixes
 mod Tidy
 pub mod TidyStreams
 pub mod Faults

@@ -17,3 +17,4 @@ pub mod Vectors
 pub mod OperatorVectors
 pub mod FormVectors
 pub mod ShapeVectors
+pub mod Prefixes

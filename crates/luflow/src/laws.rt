@@ -1,6 +1,7 @@
 //! What holds of the definitions, as contracts of functions that do nothing.
 
 ghost use Rattle.luflow.specs.FlatLaws.{SolutionLaw, TidyLaw, StuckLaw, SplitLaw, MergeLaw, FaultLaw};
+ghost use Rattle.luflow.specs.Prefixes.{PrefixLaw};
 ghost use Rattle.luflow.specs.Tables.{FitsProgramLaw};
 ghost use Rattle.luflow.specs.Vectors.{SolutionVectors};
 ghost use Rattle.luflow.specs.OperatorVectors.{OperatorVectors};
@@ -11,6 +12,12 @@ ghost use Rattle.luflow.specs.ShapeVectors.{ShapeVectors};
 /// the same stream, and there is one.
 pub fn solution_law()
     ensures { SolutionLaw }
+{}
+
+/// Tables that agree on their first instants have solutions that agree there: what a flow has at an instant
+/// isn't changed by what the inputs have later, nor by how many instants there are.
+pub fn prefix_law()
+    ensures { PrefixLaw }
 {}
 
 /// In every solution of a sound program each flow is present exactly where its clock is true, until it is

@@ -11,3 +11,4 @@ pub mod FaultPaths
 pub mod RunSources
 pub mod RunLaws
 pub mod RunReports
+pub mod Causal

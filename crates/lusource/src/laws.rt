@@ -1,6 +1,7 @@
 //! What holds of the definitions, as contracts of functions that do nothing.
 
 ghost use Rattle.lusource.specs.Agreement.{OneMainMeaningLaw, OneMeaningLaw};
+ghost use Rattle.lusource.specs.Causal.{CausalLaw};
 ghost use Rattle.lusource.specs.FaultPaths.{FaultPathsLaw};
 ghost use Rattle.lusource.specs.FaultVectors.{FaultVectorsLaw};
 ghost use Rattle.lusource.specs.Instances.{CalledLaw, InstanceLaw};
@@ -51,6 +52,12 @@ pub fn fault_vectors_law()
 /// In a solution, a fault is one of an operator of an instance, at a path of calls that the text has.
 pub fn fault_paths_law()
     ensures { FaultPathsLaw }
+{}
+
+/// What a variable has at an instant is settled by what the inputs have up to it: tables that agree on their
+/// first instants have solutions that agree there, in every instance of every node.
+pub fn causal_law()
+    ensures { CausalLaw }
 {}
 
 /// In each solution of a run's source the main variables have the streams, and the links the lists, that the
