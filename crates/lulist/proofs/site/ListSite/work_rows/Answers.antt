@@ -8,13 +8,16 @@ use Rattle.luplace.proofs.OwnColumns.{own_column}
 use Rattle.lueval_lines.specs.declared.cell.Cell.{Cell}
 use Rattle.lueval_lines.specs.declared.lent.Lent.TheVariants.{Own}
 use Rattle.lueval_lines.specs.Works.{AreWorkedBy, column_datum, lent_at}
-use Rattle.lulist.proofs.Moving.{going_to, ordered_of, slots_shown, worked_by}
+use Rattle.lulist.proofs.Moving.{going_to, inside_shown, ordered_of, slots_shown, worked_by}
 use Rattle.lulist.proofs.site.ListSite.work_rows.Goals as goal
 
 same_datum : (o : Option (Option (List Datum))) (t : ℕ) → column_datum o t ≡ datum_of o t
 same_datum None t = refl
 same_datum (Some None) t = refl
 same_datum (Some (Some column)) t = refl
+
+pub work_all-come-requires-clause-inside : goal.work_all-come-requires-clause-inside
+work_all-come-requires-clause-inside c = inside_shown c.args.self.now c.requires.going
 
 pub returns-else-come-end-clause-going : goal.returns-else-come-end-clause-going
 returns-else-come-end-clause-going c =
